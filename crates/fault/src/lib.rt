@@ -1,0 +1,11 @@
+mod faults;
+mod refusal;
+
+pub use faults::BatchFault;
+pub use faults::BytesFault;
+pub use faults::Entry;
+pub use faults::RunFault;
+pub use faults::RunFaultFromBatchFault;
+pub use faults::RunFaultFromStepFault;
+pub use faults::StepFault;
+pub use refusal::Refusal;

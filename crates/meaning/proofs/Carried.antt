@@ -1,0 +1,34 @@
+-- A visitor that goes along with the ideal converter converts as defined.
+use mathlib.Core.Path.{_≡_, sym, ap, _∙_, subst}
+use mathlib.Core.List.{List}
+use Prim.Native.Nat.{ℕ}
+use native.Mathlib.Omega.{arith}
+use Rattle.std.specs.declared.result.Result.{Result}
+use Rattle.std.specs.declared.result.Result.the-variants.{Ok, Err}
+use Rattle.meaning.specs.Model.{Model}
+use Rattle.meaning.specs.Access.{Pick, Own, StepFault}
+use Rattle.meaning.specs.Rows.{rows}
+use Rattle.meaning.specs.Refusals.{converts}
+use Rattle.meaning.specs.Enough.{Enough}
+use Rattle.meaning.specs.Formed.{Filed}
+use Rattle.meaning.specs.Walk.{Hooks, visitsStruct}
+use Rattle.meaning.specs.Ideal.{Value, listed, converter, conversion}
+use Rattle.meaning.specs.Alongside.{Ties, Both, Alongside}
+use Rattle.meaning.proofs.Converting.{converted}
+use Rattle.meaning.proofs.Beside.{both-struct}
+
+module _ {S T : Type 0} (k : Ties S ℕ T (List Value)) where
+  both-refused : {X X′ : Type 0} (V : S → X → X′ → Type 0) (s : S) (o : Result X StepFault × S) (o′ : Result X′ StepFault × ℕ) (f : StepFault) → Both k V s o o′ → o′ .0 ≡ Err f → o .0 ≡ Err f
+  both-refused V s (Ok x, t) (Ok x′, t′) f b e = absurd (let z : _≡_ {A = ℕ} 0 1 = cc in omega arith)
+  both-refused V s (Ok x, t) (Err g, t′) f b e = absurd b
+  both-refused V s (Err g, t) (Ok x′, t′) f b e = absurd b
+  both-refused V s (Err g, t) (Err g′, t′) f b e = let d = b .0 in let e′ : g′ ≡ f = cc in ap Err (d ∙ e′)
+
+  module _ (m : Model) (keeps : Enough m) (filed : Filed m) (pick : Pick) (mine : Own m pick) (cells : ℕ) (h : Hooks S T) (a : Alongside k h (converter m cells)) (s : S) (r : k .Rel s 0) where
+    -- accepted: a result that stands for the rows, in a state that goes with the cells taken
+    pub carried : (t : ℕ) → converts m pick cells ≡ Ok t → Both k (k .Val) s (visitsStruct m pick h 0 s) (Ok (listed (rows m pick)), t)
+    carried t e = subst (λ (o : Result (List Value) StepFault × ℕ). Both k (k .Val) s (visitsStruct m pick h 0 s) o) (converted m keeps filed pick mine cells .accepted t e) (both-struct k h (converter m cells) a m pick 0 s 0 r)
+
+    pub carried-refusal : (f : StepFault) → converts m pick cells ≡ Err f → visitsStruct m pick h 0 s .0 ≡ Err f
+    carried-refusal f e =
+        both-refused (k .Val) s (visitsStruct m pick h 0 s) (conversion m pick cells) f (both-struct k h (converter m cells) a m pick 0 s 0 r) (converted m keeps filed pick mine cells .refused f e)

@@ -1,0 +1,288 @@
+-- Pairs put in one after another are the pairs that are kept.
+use mathlib.Core.Path.{_≡_, refl, sym, ap, ap₂, _∙_, subst}
+use mathlib.Core.List.{List, [], _∷_, _++_, map as each, append-assoc}
+use mathlib.Core.Bool.{Bool, true, false, cond, not, _||_}
+use mathlib.Core.Logic.{_⊎_, ⊎-elim}
+use Prim.Native.Nat.{ℕ}
+use native.Mathlib.Omega.{arith}
+use lib.IntN.{ℤ, pos, negsuc}
+use Rattle.std.proofs.shelf.Tests.{cases-bool, or-parts, or-cases, or-left, or-right, both-ways}
+use Rattle.meaning.specs.Model.{Column}
+use Rattle.meaning.specs.Slots.{cut}
+use Rattle.meaning.specs.Rows.{Item, nothing, truth, whole, longer, single, doubled, raw, record′, sequence, mapping, sameWhole, sameBytes, same32, same64, anyOf, lastSame, keptFrom, kept}
+use Rattle.meaning.specs.Ideal.{Value, slot, sameTruth, alike, pairs}
+use Rattle.meaning.specs.Inserted.{inserted, insertedAll}
+use Rattle.meaning.proofs.Keys.{Alike, numbers, bytes, truths, singles, doubles}
+use Rattle.meaning.proofs.Everywhere.{All, each-ext}
+
+-- a test that goes both ways and on
+pub record Linked {X : Type 0} (same : X → X → Bool) : Type 0 where
+  pub flip : (a b : X) → same a b ≡ true → same b a ≡ true
+  pub join : (a b c : X) → same a b ≡ true → same b c ≡ true → same a c ≡ true
+
+module _ (same : ℕ → ℕ → Bool) (l : Linked same) where
+  same-swap : (a b : ℕ) → same a b ≡ same b a
+  same-swap a b = ⊎-elim (λ t. t ∙ sym (l .flip a b t)) (λ f. ⊎-elim (λ t. absurd (both-ways (same a b) f (l .flip b a t))) (λ g. f ∙ sym g) (cases-bool (same b a))) (cases-bool (same a b))
+
+  -- a key that is there
+  abbrev hits : List (ℕ × ℕ) → ℕ → Bool
+  hits [] i = false
+  hits (kv ∷ kvs) i = same (kv .0) i || hits kvs i
+
+  hits-moved : (kvs : List (ℕ × ℕ)) (i j : ℕ) → same i j ≡ true → hits kvs j ≡ true → hits kvs i ≡ true
+  hits-moved [] i j e h = h
+  hits-moved (kv ∷ kvs) i j e h =
+      ⊎-elim (λ t. or-left (same (kv .0) i) (hits kvs i) (l .join (kv .0) j i t (l .flip i j e))) (λ t. or-right (same (kv .0) i) (hits kvs i) (hits-moved kvs i j e t)) (or-cases (same (kv .0) j) (hits kvs j) h)
+
+  -- no two keys are one key
+  abbrev Apart : List (ℕ × ℕ) → Type 0
+  Apart [] = Unit {0}
+  Apart (kv ∷ kvs) = All (λ (lw : ℕ × ℕ). same (kv .0) (lw .0) ≡ false) kvs × Apart kvs
+
+  all-inserted : (P : ℕ → Type 0) (kvs : List (ℕ × ℕ)) (j : ℕ) → All (λ (kv : ℕ × ℕ). P (kv .0)) kvs → P j → All (λ (kv : ℕ × ℕ). P (kv .0)) (inserted same kvs j)
+  all-inserted P [] j a p = (p, tt)
+  all-inserted P (kv ∷ kvs) j a p = go (same (kv .0) j) (all-inserted P kvs j (a .1) p)
+    where
+      go : (b : Bool) → All (λ (kv : ℕ × ℕ). P (kv .0)) (inserted same kvs j) → All (λ (kv : ℕ × ℕ). P (kv .0)) (cond b ((kv .0, j) ∷ kvs) (kv ∷ inserted same kvs j))
+      go true r = (a .0, a .1)
+      go false r = (a .0, r)
+
+  apart-inserted : (kvs : List (ℕ × ℕ)) (j : ℕ) → Apart kvs → Apart (inserted same kvs j)
+  apart-inserted [] j a = (tt, tt)
+  apart-inserted (kv ∷ kvs) j a = go (same (kv .0) j) refl (apart-inserted kvs j (a .1))
+    where
+      go : (b : Bool) → same (kv .0) j ≡ b → Apart (inserted same kvs j) → Apart (cond b ((kv .0, j) ∷ kvs) (kv ∷ inserted same kvs j))
+      go true e r = a
+      go false e r = (all-inserted (λ k. same (kv .0) k ≡ false) kvs j (a .0) e, r)
+
+  -- the keys after one more
+  hits-there : (kvs : List (ℕ × ℕ)) (j i : ℕ) → hits kvs j ≡ true → hits (inserted same kvs j) i ≡ hits kvs i
+  hits-there [] j i h = absurd (both-ways false refl h)
+  hits-there (kv ∷ kvs) j i h = go (same (kv .0) j) h (hits-there kvs j i)
+    where
+      go : (b : Bool) → (b || hits kvs j) ≡ true → (hits kvs j ≡ true → hits (inserted same kvs j) i ≡ hits kvs i) → hits (cond b ((kv .0, j) ∷ kvs) (kv ∷ inserted same kvs j)) i ≡ (same (kv .0) i || hits kvs i)
+      go true e r = refl
+      go false e r = ap (λ (b : Bool). same (kv .0) i || b) (r e)
+
+  hits-new : (kvs : List (ℕ × ℕ)) (j i : ℕ) → hits kvs j ≡ false → hits (inserted same kvs j) i ≡ (hits kvs i || same j i)
+  hits-new [] j i h = grind arith
+  hits-new (kv ∷ kvs) j i h = go (same (kv .0) j) h (hits-new kvs j i)
+    where
+      go : (b : Bool) → (b || hits kvs j) ≡ false → (hits kvs j ≡ false → hits (inserted same kvs j) i ≡ (hits kvs i || same j i))
+          → hits (cond b ((kv .0, j) ∷ kvs) (kv ∷ inserted same kvs j)) i ≡ ((same (kv .0) i || hits kvs i) || same j i)
+      go true e r = absurd (both-ways true e refl)
+      go false e r = ap (λ (b : Bool). same (kv .0) i || b) (r e) ∙ grind arith
+
+  -- the slots seen so far have the keys that are there
+  abbrev Seen : List ℕ → List (ℕ × ℕ) → Type 0
+  Seen seen kvs = (i : ℕ) → anyOf (same i) seen ≡ hits kvs i
+
+  any-push : (t : ℕ → Bool) (xs : List ℕ) (i : ℕ) → anyOf t (xs ++ (i ∷ [])) ≡ (anyOf t xs || t i)
+  any-push t [] i = grind arith
+  any-push t (x ∷ xs) i = ap (λ b. t x || b) (any-push t xs i) ∙ grind arith
+
+  seen-there : (seen : List ℕ) (kvs : List (ℕ × ℕ)) (j : ℕ) → hits kvs j ≡ true → Seen seen kvs → Seen (seen ++ (j ∷ [])) (inserted same kvs j)
+  seen-there seen kvs j h s i =
+      any-push (same i) seen j ∙ (ap (λ (b : Bool). b || same i j) (s i) ∙ (⊎-elim (λ t. or-right (hits kvs i) (same i j) t ∙ sym (hits-moved kvs i j t h)) (λ f. ap (λ (b : Bool). hits kvs i || b) f ∙ grind arith) (cases-bool (same i j)) ∙ sym (hits-there kvs j i h)))
+
+  seen-new : (seen : List ℕ) (kvs : List (ℕ × ℕ)) (j : ℕ) → hits kvs j ≡ false → Seen seen kvs → Seen (seen ++ (j ∷ [])) (inserted same kvs j)
+  seen-new seen kvs j h s i = any-push (same i) seen j ∙ (ap₂ _||_ (s i) (same-swap i j) ∙ sym (hits-new kvs j i h))
+
+  -- each key with the last value that the slots to come have for it
+  abbrev ahead : List ℕ → ℕ × ℕ → ℕ × ℕ
+  ahead js kv = (kv .0, lastSame (same (kv .0)) (kv .1) js)
+
+  ahead-off : (j : ℕ) (js : List ℕ) (kvs : List (ℕ × ℕ)) → All (λ (kv : ℕ × ℕ). same (kv .0) j ≡ false) kvs → each (ahead js) kvs ≡ each (ahead (j ∷ js)) kvs
+  ahead-off j js [] a = refl
+  ahead-off j js (kv ∷ kvs) a =
+      ap₂ _∷_ (ap (λ (b : Bool). (kv .0, cond b (lastSame (same (kv .0)) j js) (lastSame (same (kv .0)) (kv .1) js))) (sym (a .0))) (ahead-off j js kvs (a .1))
+
+  others-off : (k j : ℕ) (kvs : List (ℕ × ℕ)) → same k j ≡ true → All (λ (lw : ℕ × ℕ). same k (lw .0) ≡ false) kvs → All (λ (kv : ℕ × ℕ). same (kv .0) j ≡ false) kvs
+  others-off k j [] e a = tt
+  others-off k j (kv ∷ kvs) e a =
+      (⊎-elim (λ t. absurd (both-ways (same k (kv .0)) (a .0) (l .join k j (kv .0) e (l .flip (kv .0) j t)))) (λ f. f) (cases-bool (same (kv .0) j)), others-off k j kvs e (a .1))
+
+  ahead-there : (j : ℕ) (js : List ℕ) (kvs : List (ℕ × ℕ)) → Apart kvs → hits kvs j ≡ true → each (ahead js) (inserted same kvs j) ≡ each (ahead (j ∷ js)) kvs
+  ahead-there j js [] a h = absurd (both-ways false refl h)
+  ahead-there j js (kv ∷ kvs) a h = go (same (kv .0) j) refl h (ahead-there j js kvs (a .1))
+    where
+      go : (b : Bool) → same (kv .0) j ≡ b → (b || hits kvs j) ≡ true → (hits kvs j ≡ true → each (ahead js) (inserted same kvs j) ≡ each (ahead (j ∷ js)) kvs)
+          → each (ahead js) (cond b ((kv .0, j) ∷ kvs) (kv ∷ inserted same kvs j)) ≡ (kv .0, cond b (lastSame (same (kv .0)) j js) (lastSame (same (kv .0)) (kv .1) js)) ∷ each (ahead (j ∷ js)) kvs
+      go true e h r = ap (λ (xs : List (ℕ × ℕ)). (kv .0, lastSame (same (kv .0)) j js) ∷ xs) (ahead-off j js kvs (others-off (kv .0) j kvs e (a .0)))
+      go false e h r = ap (λ (xs : List (ℕ × ℕ)). (kv .0, lastSame (same (kv .0)) (kv .1) js) ∷ xs) (r h)
+
+  ahead-new : (j : ℕ) (js : List ℕ) (kvs : List (ℕ × ℕ)) → hits kvs j ≡ false → each (ahead js) (inserted same kvs j) ≡ each (ahead (j ∷ js)) kvs ++ ((j, lastSame (same j) j js) ∷ [])
+  ahead-new j js [] h = refl
+  ahead-new j js (kv ∷ kvs) h = go (same (kv .0) j) h (ahead-new j js kvs)
+    where
+      go : (b : Bool) → (b || hits kvs j) ≡ false → (hits kvs j ≡ false → each (ahead js) (inserted same kvs j) ≡ each (ahead (j ∷ js)) kvs ++ ((j, lastSame (same j) j js) ∷ []))
+          → each (ahead js) (cond b ((kv .0, j) ∷ kvs) (kv ∷ inserted same kvs j)) ≡ ((kv .0, cond b (lastSame (same (kv .0)) j js) (lastSame (same (kv .0)) (kv .1) js)) ∷ each (ahead (j ∷ js)) kvs) ++ ((j, lastSame (same j) j js) ∷ [])
+      go true e r = absurd (both-ways true e refl)
+      go false e r = ap (λ (xs : List (ℕ × ℕ)). (kv .0, lastSame (same (kv .0)) (kv .1) js) ∷ xs) (r e)
+
+  ahead-none : (kvs : List (ℕ × ℕ)) → kvs ≡ each (ahead []) kvs ++ []
+  ahead-none [] = refl
+  ahead-none (kv ∷ kvs) = ap (λ (xs : List (ℕ × ℕ)). kv ∷ xs) (ahead-none kvs)
+
+  -- what is put in is what was there, with its last values, and what is kept of the rest
+  all-kept : (js : List ℕ) (kvs : List (ℕ × ℕ)) (seen : List ℕ) → Apart kvs → Seen seen kvs → insertedAll same kvs js ≡ each (ahead js) kvs ++ keptFrom same seen js
+  all-kept [] kvs seen a s = ahead-none kvs
+  all-kept (j ∷ js) kvs seen a s = go (hits kvs j) refl (all-kept js (inserted same kvs j) (seen ++ (j ∷ [])) (apart-inserted kvs j a))
+    where
+      more : List (ℕ × ℕ)
+      more = keptFrom same (seen ++ (j ∷ [])) js
+
+      go : (b : Bool) → hits kvs j ≡ b → (Seen (seen ++ (j ∷ [])) (inserted same kvs j) → insertedAll same (inserted same kvs j) js ≡ each (ahead js) (inserted same kvs j) ++ more)
+          → insertedAll same (inserted same kvs j) js ≡ each (ahead (j ∷ js)) kvs ++ cond (anyOf (same j) seen) more ((j, lastSame (same j) j js) ∷ more)
+      go true h r =
+          r (seen-there seen kvs j h s)
+          ∙ ap₂ (λ (xs : List (ℕ × ℕ)) (b : Bool). xs ++ cond b more ((j, lastSame (same j) j js) ∷ more)) (ahead-there j js kvs a h) (sym (s j ∙ h))
+      go false h r =
+          r (seen-new seen kvs j h s)
+          ∙ (ap (λ (xs : List (ℕ × ℕ)). xs ++ more) (ahead-new j js kvs h)
+          ∙ (append-assoc (each (ahead (j ∷ js)) kvs) ((j, lastSame (same j) j js) ∷ []) more
+          ∙ ap (λ (b : Bool). each (ahead (j ∷ js)) kvs ++ cond b more ((j, lastSame (same j) j js) ∷ more)) (sym (s j ∙ h))))
+
+  pub inserted-kept : (is : List ℕ) → insertedAll same [] is ≡ kept same is
+  inserted-kept is = all-kept is [] [] tt (λ i. refl)
+
+-- whole numbers, and values of every kind, are compared by such a test
+linked : {X : Type 0} (same : X → X → Bool) → Alike same → Linked same
+linked same a = record { flip = a .flip; join = a .join }
+
+whole-flip : (a b : ℤ) → sameWhole a b ≡ true → sameWhole b a ≡ true
+whole-flip (pos a) (pos b) e = numbers .flip a b e
+whole-flip (pos a) (negsuc b) e = e
+whole-flip (negsuc a) (pos b) e = e
+whole-flip (negsuc a) (negsuc b) e = numbers .flip a b e
+
+whole-join : (a b c : ℤ) → sameWhole a b ≡ true → sameWhole b c ≡ true → sameWhole a c ≡ true
+whole-join (pos a) (pos b) (pos c) e f = numbers .join a b c e f
+whole-join (pos a) (pos b) (negsuc c) e f = f
+whole-join (pos a) (negsuc b) c e f = absurd (both-ways false refl e)
+whole-join (negsuc a) (pos b) c e f = absurd (both-ways false refl e)
+whole-join (negsuc a) (negsuc b) (pos c) e f = f
+whole-join (negsuc a) (negsuc b) (negsuc c) e f = numbers .join a b c e f
+
+wholes : Linked sameWhole
+wholes = record { flip = whole-flip; join = whole-join }
+
+-- a value that is one key with a primitive value is of its kind
+truth-like : (a : Bool) (y : Item) → alike (truth a) y ≡ true → (b : Bool) × (y ≡ truth b) × (sameTruth a b ≡ true)
+truth-like a nothing e = absurd (both-ways false refl e)
+truth-like a (truth b) e = (b, refl, e)
+truth-like a (whole b) e = absurd (both-ways false refl e)
+truth-like a (longer b) e = absurd (both-ways false refl e)
+truth-like a (single b) e = absurd (both-ways false refl e)
+truth-like a (doubled b) e = absurd (both-ways false refl e)
+truth-like a (raw b) e = absurd (both-ways false refl e)
+truth-like a record′ e = absurd (both-ways false refl e)
+truth-like a sequence e = absurd (both-ways false refl e)
+truth-like a mapping e = absurd (both-ways false refl e)
+
+whole-like : (a : ℤ) (y : Item) → alike (whole a) y ≡ true → (b : ℤ) × (y ≡ whole b) × (sameWhole a b ≡ true)
+whole-like a nothing e = absurd (both-ways false refl e)
+whole-like a (truth b) e = absurd (both-ways false refl e)
+whole-like a (whole b) e = (b, refl, e)
+whole-like a (longer b) e = absurd (both-ways false refl e)
+whole-like a (single b) e = absurd (both-ways false refl e)
+whole-like a (doubled b) e = absurd (both-ways false refl e)
+whole-like a (raw b) e = absurd (both-ways false refl e)
+whole-like a record′ e = absurd (both-ways false refl e)
+whole-like a sequence e = absurd (both-ways false refl e)
+whole-like a mapping e = absurd (both-ways false refl e)
+
+longer-like : (a : ℤ) (y : Item) → alike (longer a) y ≡ true → (b : ℤ) × (y ≡ longer b) × (sameWhole a b ≡ true)
+longer-like a nothing e = absurd (both-ways false refl e)
+longer-like a (truth b) e = absurd (both-ways false refl e)
+longer-like a (whole b) e = absurd (both-ways false refl e)
+longer-like a (longer b) e = (b, refl, e)
+longer-like a (single b) e = absurd (both-ways false refl e)
+longer-like a (doubled b) e = absurd (both-ways false refl e)
+longer-like a (raw b) e = absurd (both-ways false refl e)
+longer-like a record′ e = absurd (both-ways false refl e)
+longer-like a sequence e = absurd (both-ways false refl e)
+longer-like a mapping e = absurd (both-ways false refl e)
+
+single-like : (a : ℕ) (y : Item) → alike (single a) y ≡ true → (b : ℕ) × (y ≡ single b) × (same32 a b ≡ true)
+single-like a nothing e = absurd (both-ways false refl e)
+single-like a (truth b) e = absurd (both-ways false refl e)
+single-like a (whole b) e = absurd (both-ways false refl e)
+single-like a (longer b) e = absurd (both-ways false refl e)
+single-like a (single b) e = (b, refl, e)
+single-like a (doubled b) e = absurd (both-ways false refl e)
+single-like a (raw b) e = absurd (both-ways false refl e)
+single-like a record′ e = absurd (both-ways false refl e)
+single-like a sequence e = absurd (both-ways false refl e)
+single-like a mapping e = absurd (both-ways false refl e)
+
+doubled-like : (a : ℕ) (y : Item) → alike (doubled a) y ≡ true → (b : ℕ) × (y ≡ doubled b) × (same64 a b ≡ true)
+doubled-like a nothing e = absurd (both-ways false refl e)
+doubled-like a (truth b) e = absurd (both-ways false refl e)
+doubled-like a (whole b) e = absurd (both-ways false refl e)
+doubled-like a (longer b) e = absurd (both-ways false refl e)
+doubled-like a (single b) e = absurd (both-ways false refl e)
+doubled-like a (doubled b) e = (b, refl, e)
+doubled-like a (raw b) e = absurd (both-ways false refl e)
+doubled-like a record′ e = absurd (both-ways false refl e)
+doubled-like a sequence e = absurd (both-ways false refl e)
+doubled-like a mapping e = absurd (both-ways false refl e)
+
+raw-like : (a : List ℕ) (y : Item) → alike (raw a) y ≡ true → (b : List ℕ) × (y ≡ raw b) × (sameBytes a b ≡ true)
+raw-like a nothing e = absurd (both-ways false refl e)
+raw-like a (truth b) e = absurd (both-ways false refl e)
+raw-like a (whole b) e = absurd (both-ways false refl e)
+raw-like a (longer b) e = absurd (both-ways false refl e)
+raw-like a (single b) e = absurd (both-ways false refl e)
+raw-like a (doubled b) e = absurd (both-ways false refl e)
+raw-like a (raw b) e = (b, refl, e)
+raw-like a record′ e = absurd (both-ways false refl e)
+raw-like a sequence e = absurd (both-ways false refl e)
+raw-like a mapping e = absurd (both-ways false refl e)
+
+value-flip : (x y : Item) → alike x y ≡ true → alike y x ≡ true
+value-flip (truth a) y e = let r = truth-like a y e in subst (λ (z : Item). alike z (truth a) ≡ true) (sym (r .1)) (truths .flip a (r .0) (r .2))
+value-flip (whole a) y e = let r = whole-like a y e in subst (λ (z : Item). alike z (whole a) ≡ true) (sym (r .1)) (wholes .flip a (r .0) (r .2))
+value-flip (longer a) y e = let r = longer-like a y e in subst (λ (z : Item). alike z (longer a) ≡ true) (sym (r .1)) (wholes .flip a (r .0) (r .2))
+value-flip (single a) y e = let r = single-like a y e in subst (λ (z : Item). alike z (single a) ≡ true) (sym (r .1)) (singles .flip a (r .0) (r .2))
+value-flip (doubled a) y e = let r = doubled-like a y e in subst (λ (z : Item). alike z (doubled a) ≡ true) (sym (r .1)) (doubles .flip a (r .0) (r .2))
+value-flip (raw a) y e = let r = raw-like a y e in subst (λ (z : Item). alike z (raw a) ≡ true) (sym (r .1)) (bytes .flip a (r .0) (r .2))
+value-flip nothing y e = absurd (both-ways false refl e)
+value-flip record′ y e = absurd (both-ways false refl e)
+value-flip sequence y e = absurd (both-ways false refl e)
+value-flip mapping y e = absurd (both-ways false refl e)
+
+value-join : (x y z : Item) → alike x y ≡ true → alike y z ≡ true → alike x z ≡ true
+value-join (truth a) y z e f =
+    let r = truth-like a y e in
+    let q = truth-like (r .0) z (subst (λ (w : Item). alike w z ≡ true) (r .1) f) in
+    subst (λ (w : Item). alike (truth a) w ≡ true) (sym (q .1)) (truths .join a (r .0) (q .0) (r .2) (q .2))
+value-join (whole a) y z e f =
+    let r = whole-like a y e in
+    let q = whole-like (r .0) z (subst (λ (w : Item). alike w z ≡ true) (r .1) f) in
+    subst (λ (w : Item). alike (whole a) w ≡ true) (sym (q .1)) (wholes .join a (r .0) (q .0) (r .2) (q .2))
+value-join (longer a) y z e f =
+    let r = longer-like a y e in
+    let q = longer-like (r .0) z (subst (λ (w : Item). alike w z ≡ true) (r .1) f) in
+    subst (λ (w : Item). alike (longer a) w ≡ true) (sym (q .1)) (wholes .join a (r .0) (q .0) (r .2) (q .2))
+value-join (single a) y z e f =
+    let r = single-like a y e in
+    let q = single-like (r .0) z (subst (λ (w : Item). alike w z ≡ true) (r .1) f) in
+    subst (λ (w : Item). alike (single a) w ≡ true) (sym (q .1)) (singles .join a (r .0) (q .0) (r .2) (q .2))
+value-join (doubled a) y z e f =
+    let r = doubled-like a y e in
+    let q = doubled-like (r .0) z (subst (λ (w : Item). alike w z ≡ true) (r .1) f) in
+    subst (λ (w : Item). alike (doubled a) w ≡ true) (sym (q .1)) (doubles .join a (r .0) (q .0) (r .2) (q .2))
+value-join (raw a) y z e f =
+    let r = raw-like a y e in
+    let q = raw-like (r .0) z (subst (λ (w : Item). alike w z ≡ true) (r .1) f) in
+    subst (λ (w : Item). alike (raw a) w ≡ true) (sym (q .1)) (bytes .join a (r .0) (q .0) (r .2) (q .2))
+value-join nothing y z e f = absurd (both-ways false refl e)
+value-join record′ y z e f = absurd (both-ways false refl e)
+value-join sequence y z e f = absurd (both-ways false refl e)
+value-join mapping y z e f = absurd (both-ways false refl e)
+
+-- the pairs of a map's slot, put in one after another by the keys' values
+pub pairs-inserted : (x : Column) (ks : List Value) (i : ℕ) → pairs x ks i ≡ insertedAll (λ a b. alike (slot ks a .0) (slot ks b .0)) [] (cut x i)
+pairs-inserted x ks i =
+    sym (inserted-kept (λ a b. alike (slot ks a .0) (slot ks b .0)) (record { flip = λ a b. value-flip (slot ks a .0) (slot ks b .0); join = λ a b c. value-join (slot ks a .0) (slot ks b .0) (slot ks c .0) }) (cut x i))

@@ -1,0 +1,90 @@
+-- The NaNs of columns and of reaches: shown and hidden, and how many there can be.
+use mathlib.Core.Path.{_≡_, refl, sym, ap, _∙_, subst}
+use mathlib.Core.List.{List, [], _∷_}
+use mathlib.Core.Bool.{Bool, true, false, cond, not, _&&_, and-false}
+use Prim.Native.Nat.{ℕ, zero, suc, _+_, _*_, _≤_}
+use native.Mathlib.Nat.{suc-mul}
+use native.Mathlib.Omega.{arith}
+use lib.IntN.{ℤ}
+use lib.ListN.{length}
+use Rattle.meaning.specs.Model.{Model, Code, bits, words, variable, fixedSizeBinary, structs, lists, largeLists, fixedSizeLists, maps, int32, int64, float32, float64, date32, time64, micros, nanos, at}
+use Rattle.meaning.specs.Slots.{null, nan, nanBy, upto}
+use Rattle.meaning.specs.Counts.{Reach, nans, hiddenNans, float?, isFloat, sameId, tally}
+use Rattle.meaning.proofs.Totals.{sumTo, tally-upto, sum-none}
+use Rattle.meaning.proofs.Found.{shownNans, shownIn}
+
+-- a column's NaNs are the shown and the hidden ones, and no more than its slots
+tally-split : (p q : ℕ → Bool) (xs : List ℕ) → tally p xs ≡ tally (λ i. p i && q i) xs + tally (λ i. p i && not (q i)) xs
+tally-split p q [] = refl
+tally-split p q (x ∷ xs) = one (p x) (q x) (tally-split p q xs)
+  where
+    one : (a b : Bool) → tally p xs ≡ tally (λ i. p i && q i) xs + tally (λ i. p i && not (q i)) xs
+        → cond a 1 0 + tally p xs ≡ (cond (a && b) 1 0 + tally (λ i. p i && q i) xs) + (cond (a && not b) 1 0 + tally (λ i. p i && not (q i)) xs)
+    one true true h = omega arith
+    one true false h = omega arith
+    one false b h = omega arith
+
+cond-small : (b : Bool) → cond b 1 0 ≤ 1
+cond-small true = omega arith
+cond-small false = omega arith
+
+cond-le : (b : Bool) (x : ℕ) → cond b x 0 ≤ x
+cond-le true x = omega arith
+cond-le false x = omega arith
+
+cond-split : (b : Bool) (x y z : ℕ) → x ≡ y + z → cond b x 0 ≡ cond b y 0 + cond b z 0
+cond-split true x y z e = e
+cond-split false x y z e = refl
+
+tally-small : (p : ℕ → Bool) (n : ℕ) → sumTo n (λ i. cond (p i) 1 0) ≤ n
+tally-small p zero = omega arith
+tally-small p (suc n) = omega (arith, cond-small (p 0), tally-small (λ i. p (suc i)) n)
+
+-- a column that is no float column holds no NaN
+dull : (k : Code) (body : List ℕ) (i : ℕ) → isFloat k ≡ false → nanBy k body i ≡ false
+dull bits body i e = refl
+dull (words int32) body i e = refl
+dull (words int64) body i e = refl
+dull (words float32) body i e = cc
+dull (words float64) body i e = cc
+dull (words date32) body i e = refl
+dull (words time64) body i e = refl
+dull (words micros) body i e = refl
+dull (words nanos) body i e = refl
+dull (variable t) body i e = refl
+dull (fixedSizeBinary w) body i e = refl
+dull structs body i e = refl
+dull lists body i e = refl
+dull largeLists body i e = refl
+dull (fixedSizeLists s) body i e = refl
+dull maps body i e = refl
+
+module _ (m : Model) where
+  nans-split : (id : ℤ) (r : Reach) → nans m (r .column) ≡ shownNans m id r + hiddenNans m r
+  nans-split id r =
+      tally-split (nan (at m (r .column))) (r .shown) (upto (at m (r .column) .len))
+      ∙ ap (λ k. k + hiddenNans m r) (tally-upto (λ i. nan (at m (r .column)) i && r .shown i) (at m (r .column) .len))
+
+  pub nans-dull : (c : ℕ) → float? m c ≡ false → nans m c ≡ 0
+  nans-dull c e = tally-upto (nan (at m c)) (at m c .len) ∙ sum-none (at m c .len) _ (λ i h. ap (λ (b : Bool). cond (not (null (at m c) i) && b) 1 0) (dull (at m c .code) (at m c .body) i e) ∙ ap (λ (b : Bool). cond b 1 0) (and-false (not (null (at m c) i))))
+
+  pub nans-small : (c : ℕ) → nans m c ≤ at m c .len
+  nans-small c = subst (λ k. k ≤ at m c .len) (sym (tally-upto (nan (at m c)) (at m c .len))) (tally-small (nan (at m c)) (at m c .len))
+
+-- the NaNs of the columns reached under an id
+module _ (m : Model) (id : ℤ) where
+  abbrev pub reachSum : List Reach → ℕ
+  reachSum [] = 0
+  reachSum (r ∷ rs) = cond (sameId id (r .id)) (nans m (r .column)) 0 + reachSum rs
+
+  abbrev pub hiddenSum : List Reach → ℕ
+  hiddenSum [] = 0
+  hiddenSum (r ∷ rs) = cond (sameId id (r .id)) (hiddenNans m r) 0 + hiddenSum rs
+
+  pub sum-hidden : (rs : List Reach) → reachSum rs ≡ shownIn m id rs + hiddenSum rs
+  sum-hidden [] = refl
+  sum-hidden (r ∷ rs) = omega (arith, sum-hidden rs, cond-split (sameId id (r .id)) (nans m (r .column)) (shownNans m id r) (hiddenNans m r) (nans-split m id r))
+
+  pub reach-bound : (l : ℕ) → ((c : ℕ) → nans m c ≤ l) → (rs : List Reach) → reachSum rs ≤ length rs * l
+  reach-bound l h [] = omega arith
+  reach-bound l h (r ∷ rs) = omega (arith, cond-le (sameId id (r .id)) (nans m (r .column)), h (r .column), reach-bound l h rs, suc-mul (length rs) l)

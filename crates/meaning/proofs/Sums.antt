@@ -1,0 +1,93 @@
+-- The law of sums: what the calls add is one list of additions.
+use mathlib.Core.Path.{_≡_, refl, sym, _∙_, ap}
+use mathlib.Core.List.{List, [], _∷_, map as each}
+use mathlib.Core.Logic.{inl, inr}
+use mathlib.Core.Bool.{true, false}
+use Prim.Native.Nat.{ℕ, _+_, _≤_}
+use native.Mathlib.Omega.{arith}
+use lib.Dec.{leb}
+use lib.IntN.{ℤ}
+use lib.ListN.{length}
+use Rattle.std.specs.declared.option.Option.{Option}
+use Rattle.std.proofs.shelf.Tests.{cases-bool, le-leb}
+use Rattle.meaning.specs.Model.{Model}
+use Rattle.meaning.specs.Access.{StepFault}
+use Rattle.meaning.specs.Counts.{Reach, reached, nans, float?}
+use Rattle.meaning.specs.Law.{Call, Table, added, counted, has, Answer, answer, adding, floats, sumOf, mentions, Reordered, done, skip, swap, trans, computes, after, allFloats, Few, answers, Sums-law}
+use Rattle.meaning.proofs.Tables.{alike-equal, length-new}
+use Rattle.meaning.proofs.Additions.{folded, folded-both, ascending-folded, length-folded, sum-folded, length-distinct, distinct-length, sumOf-both, mentions-both, sumOf-turn, mentions-turn}
+
+-- while the table has room for all that is to come, nothing is refused
+adding-all : (m : Model) (t : Table) (rs : List Reach) (e : Option StepFault) → length (folded t (floats m rs)) ≤ 256 → adding m t rs e ≡ (answer e, folded t (floats m rs))
+adding-all m t [] e h = refl
+adding-all m t (r ∷ rs) e h =
+    elim (cases-bool (float? m (r .column))) [
+      | inl f ↦
+          let n : ℕ = nans m (r .column) in
+          let u : Table = added t (r .id) n in
+          let g : length (folded u (floats m rs)) ≤ 256 = rw f at h in
+          elim (cases-bool (has t (r .id))) [
+            | inl s ↦ rw (f, s) (adding-all m u rs e g)
+            | inr s ↦
+                let b : leb (length t + 1) 256 ≡ true = le-leb (length t + 1) 256 (omega (arith, length-new t (r .id) n s, length-folded u (floats m rs))) in
+                rw (f, s, b) (adding-all m u rs e g)
+          ]
+      | inr f ↦ rw f (adding-all m t rs e (rw f at h))
+    ]
+
+module _ (Keeps : Model → Type 0) where
+  abbrev own : Call Keeps → List (ℤ × ℕ)
+  own c = floats (c .model) (reached (c .model) (c .pick) .0)
+
+  sumOf-reordered : {cs ds : List (Call Keeps)} (q : ℤ) → Reordered cs ds → sumOf q (allFloats Keeps cs) ≡ sumOf q (allFloats Keeps ds)
+  sumOf-reordered q done = refl
+  sumOf-reordered q (skip {x} {xs} {ys} r) = rw (sumOf-both q (own x) (allFloats Keeps xs), sumOf-both q (own x) (allFloats Keeps ys), sumOf-reordered q r)
+  sumOf-reordered q (swap {x} {y} {xs}) = sumOf-turn q (own x) (own y) (allFloats Keeps xs)
+  sumOf-reordered q (trans r s) = sumOf-reordered q r ∙ sumOf-reordered q s
+
+  mentions-reordered : {cs ds : List (Call Keeps)} (q : ℤ) → Reordered cs ds → mentions q (allFloats Keeps cs) ≡ mentions q (allFloats Keeps ds)
+  mentions-reordered q done = refl
+  mentions-reordered q (skip {x} {xs} {ys} r) = rw (mentions-both q (own x) (allFloats Keeps xs), mentions-both q (own x) (allFloats Keeps ys), mentions-reordered q r)
+  mentions-reordered q (swap {x} {y} {xs}) = mentions-turn q (own x) (own y) (allFloats Keeps xs)
+  mentions-reordered q (trans r s) = mentions-reordered q r ∙ mentions-reordered q s
+
+  folded-reordered : (cs ds : List (Call Keeps)) → Reordered cs ds → folded [] (allFloats Keeps cs) ≡ folded [] (allFloats Keeps ds)
+  folded-reordered cs ds r =
+      alike-equal (folded [] (allFloats Keeps cs)) (folded [] (allFloats Keeps ds)) (ascending-folded [] (allFloats Keeps cs) tt) (ascending-folded [] (allFloats Keeps ds) tt)
+      (λ q. sum-folded (allFloats Keeps cs) q ∙ (rw (sumOf-reordered q r, mentions-reordered q r) (sym (sum-folded (allFloats Keeps ds) q))))
+
+  -- one call, with room for it and for the calls to come
+  room : (c : Call Keeps) (cs : List (Call Keeps)) (t : Table) → length (folded t (allFloats Keeps (c ∷ cs))) ≤ 256 → length (folded (folded t (own c)) (allFloats Keeps cs)) ≤ 256
+  room c cs t h = rw (folded-both t (own c) (allFloats Keeps cs)) at h
+
+  computes-all : (c : Call Keeps) (cs : List (Call Keeps)) (t : Table) → length (folded t (allFloats Keeps (c ∷ cs))) ≤ 256 → computes Keeps c t ≡ (answer (reached (c .model) (c .pick) .1), folded t (own c))
+  computes-all c cs t h =
+      adding-all (c .model) t (reached (c .model) (c .pick) .0) (reached (c .model) (c .pick) .1)
+      (omega (arith, room c cs t h, length-folded (folded t (own c)) (allFloats Keeps cs)))
+
+  -- all calls, from any table
+  after-all : (cs : List (Call Keeps)) (t : Table) → length (folded t (allFloats Keeps cs)) ≤ 256 → after Keeps cs t ≡ folded t (allFloats Keeps cs)
+  after-all [] t h = refl
+  after-all (c ∷ cs) t h =
+      ap (λ (p : Answer × Table). after Keeps cs (p .1)) (computes-all c cs t h)
+      ∙ (after-all cs (folded t (own c)) (room c cs t h)
+      ∙ sym (folded-both t (own c) (allFloats Keeps cs)))
+
+  answers-all : (cs : List (Call Keeps)) (t : Table) → length (folded t (allFloats Keeps cs)) ≤ 256 → answers Keeps cs t ≡ each (λ c. (c, answer (reached (c .model) (c .pick) .1))) cs
+  answers-all [] t h = refl
+  answers-all (c ∷ cs) t h =
+      ap (λ (p : Answer × Table). (c, p .0) ∷ answers Keeps cs (p .1)) (computes-all c cs t h)
+      ∙ ap (λ (rest : List (Call Keeps × Answer)). (c, answer (reached (c .model) (c .pick) .1)) ∷ rest) (answers-all cs (folded t (own c)) (room c cs t h))
+
+  fits : (cs : List (Call Keeps)) → Few Keeps cs → length (folded [] (allFloats Keeps cs)) ≤ 256
+  fits cs few = omega (arith, length-distinct (allFloats Keeps cs))
+
+  pub sums-law : Sums-law Keeps
+  sums-law = record {
+    sum = λ cs few id. ap (λ (t : Table). counted t id) (after-all cs [] (fits cs few)) ∙ sum-folded (allFloats Keeps cs) id;
+    table = λ cs ds few r.
+        let e : folded [] (allFloats Keeps cs) ≡ folded [] (allFloats Keeps ds) = folded-reordered cs ds r in
+        after-all cs [] (fits cs few) ∙ (e ∙ sym (after-all ds [] (rw e at (fits cs few))));
+    alone = λ cs few. answers-all cs [] (fits cs few);
+    few = λ cs ds few r. omega (arith, fits cs few, ap {B = ℕ} length (folded-reordered cs ds r), distinct-length (allFloats Keeps ds));
+  }

@@ -1,0 +1,6 @@
+-- What the contract demands is the theorem.
+use Rattle.meaning.proofs.Matching.{own-id, own-name}
+use Rattle.meaning.proofs.picks_stand.Needs as need
+
+pub returns : need.returns
+returns c = record { ids = own-id; names = own-name }

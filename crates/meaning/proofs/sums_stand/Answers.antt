@@ -1,0 +1,7 @@
+-- What the contract demands is the theorem.
+use Rattle.meaning.specs.Keeps.{Keeps}
+use Rattle.meaning.proofs.Sums.{sums-law}
+use Rattle.meaning.proofs.sums_stand.Needs as need
+
+pub returns : need.returns
+returns c = sums-law Keeps

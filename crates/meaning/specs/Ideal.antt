@@ -1,0 +1,246 @@
+-- The converter's hooks, on lists of values instead of runs of cells.
+use mathlib.Core.Path.{_≡_}
+use mathlib.Core.List.{List, [], _∷_, map as each}
+use mathlib.Core.Bool.{Bool, true, false, cond, not, _&&_}
+use Prim.Native.Nat.{ℕ, _+_, _*_, _/_}
+use lib.Dec.{ltb, leb, eqb}
+use lib.IntN.{ℤ}
+use lib.ListN.{length, getD}
+use Rattle.std.specs.declared.option.Option.{Option}
+use Rattle.std.specs.declared.option.Option.the-variants.{Some, None}
+use Rattle.std.specs.declared.result.Result.{Result}
+use Rattle.std.specs.declared.result.Result.the-variants.{Ok, Err}
+use Rattle.meaning.specs.Forest.{Forest, none, tree, size}
+use Rattle.meaning.specs.Model.{Model, Column, Field, Shape, prim, struct, list, map, Primitive, Code, bits, words, variable, fixedSizeBinary, structs, lists, largeLists, fixedSizeLists, maps, at}
+use Rattle.meaning.specs.Slots.{null, span, cut, upto}
+use Rattle.meaning.specs.Access.{Pick, Own, StepFault, fault, struct?, list?, map?}
+use Rattle.meaning.specs.Rows.{Item, nothing, truth, whole, longer, single, doubled, raw, record′, sequence, mapping, Values, item, joined, kept, sameBytes, sameWhole, same32, same64, rows}
+use Rattle.meaning.specs.Refusals.{accepts, some, sum, needs, second, converts}
+use Rattle.meaning.specs.Enough.{Enough}
+use Rattle.meaning.specs.Formed.{Formed, Stored, Filed}
+use Rattle.meaning.specs.Trees.{Rules}
+use Rattle.meaning.specs.Walk.{Step, ret, refuse, Role, Hooks, fieldAt, typeAt, missing, visitsStruct}
+
+-- a value whole: its item, and its parts, which stand below it
+abbrev pub Value : Type 0
+Value = Item × Values
+
+abbrev pub isNull : Item → Bool
+isNull nothing = true
+isNull (truth b) = false
+isNull (whole z) = false
+isNull (longer z) = false
+isNull (single b) = false
+isNull (doubled b) = false
+isNull (raw bs) = false
+isNull record′ = false
+isNull sequence = false
+isNull mapping = false
+
+-- a result's value at a slot
+abbrev pub slot : List Value → ℕ → Value
+slot t i = getD t i (nothing, none)
+
+-- a value beside others
+abbrev pub put : Value → Values → Values
+put v rest = tree (v .0) (v .1) rest
+
+-- a forest of values, as a list of them
+abbrev pub listed : Values → List Value
+listed none = []
+listed (tree x ps rest) = (x, ps) ∷ listed rest
+
+-- keys are compared by value: floats are one key if both are NaN or they are one number (so -0 is +0), others by content; a key is a primitive value
+abbrev pub sameTruth : Bool → Bool → Bool
+sameTruth a b = cond a b (not b)
+
+abbrev pub alike : Item → Item → Bool
+alike (truth a) y = elim y [ truth b ↦ sameTruth a b | nothing ↦ false | whole z ↦ false | longer z ↦ false | single b ↦ false | doubled b ↦ false | raw bs ↦ false | record′ ↦ false | sequence ↦ false | mapping ↦ false ]
+alike (whole a) y = elim y [ whole b ↦ sameWhole a b | nothing ↦ false | truth b ↦ false | longer z ↦ false | single b ↦ false | doubled b ↦ false | raw bs ↦ false | record′ ↦ false | sequence ↦ false | mapping ↦ false ]
+alike (longer a) y = elim y [ longer b ↦ sameWhole a b | nothing ↦ false | truth b ↦ false | whole z ↦ false | single b ↦ false | doubled b ↦ false | raw bs ↦ false | record′ ↦ false | sequence ↦ false | mapping ↦ false ]
+alike (single a) y = elim y [ single b ↦ same32 a b | nothing ↦ false | truth b ↦ false | whole z ↦ false | longer z ↦ false | doubled b ↦ false | raw bs ↦ false | record′ ↦ false | sequence ↦ false | mapping ↦ false ]
+alike (doubled a) y = elim y [ doubled b ↦ same64 a b | nothing ↦ false | truth b ↦ false | whole z ↦ false | longer z ↦ false | single b ↦ false | raw bs ↦ false | record′ ↦ false | sequence ↦ false | mapping ↦ false ]
+alike (raw a) y = elim y [ raw b ↦ sameBytes a b | nothing ↦ false | truth b ↦ false | whole z ↦ false | longer z ↦ false | single b ↦ false | doubled b ↦ false | record′ ↦ false | sequence ↦ false | mapping ↦ false ]
+alike nothing y = false
+alike record′ y = false
+alike sequence y = false
+alike mapping y = false
+
+-- what a hook asks of the field it is given: a primitive type; a struct type; a list type, and whether its element is required; a map type, and whether its value is
+abbrev pub primOf : Option (Shape × Forest Field) → Option Primitive
+primOf None = None
+primOf (Some (prim p, fs)) = Some p
+primOf (Some (struct, fs)) = None
+primOf (Some (list, fs)) = None
+primOf (Some (map, fs)) = None
+
+abbrev pub structOf : Option (Shape × Forest Field) → Option (Unit {0})
+structOf None = None
+structOf (Some (prim p, fs)) = None
+structOf (Some (struct, fs)) = Some tt
+structOf (Some (list, fs)) = None
+structOf (Some (map, fs)) = None
+
+abbrev pub listOf : Option (Shape × Forest Field) → Option Bool
+listOf None = None
+listOf (Some (prim p, fs)) = None
+listOf (Some (struct, fs)) = None
+listOf (Some (list, fs)) = Some (needs fs)
+listOf (Some (map, fs)) = None
+
+abbrev pub mapOf : Option (Shape × Forest Field) → Option Bool
+mapOf None = None
+mapOf (Some (prim p, fs)) = None
+mapOf (Some (struct, fs)) = None
+mapOf (Some (list, fs)) = None
+mapOf (Some (map, fs)) = Some (needs (second fs))
+
+abbrev pub requiredOf : Option (Field × Forest Field) → Option Bool
+requiredOf None = None
+requiredOf (Some (f, below)) = Some (f .required)
+
+-- the step on what was found, or a refusal; and a refusal where a test holds
+abbrev pub given : {X Y S : Type 0} → Option X → StepFault → (X → Step S Y) → Step S Y
+given None e k = refuse e
+given (Some x) e k = k x
+
+abbrev pub unless : {Y S : Type 0} → Bool → StepFault → Step S Y → Step S Y
+unless true e k = refuse e
+unless false e k = k
+
+-- a hook's first question: a field of the kind that the hook is for, and a column
+abbrev pub sought : {X Y : Type 0} → Model → Option X → ℕ → ℕ → (X → Step ℕ Y) → Step ℕ Y
+sought m o n c k = given o (fault 9 c n) (λ x. unless (missing m c) (fault 9 c n) (k x))
+
+-- the column whose child column k is, the trees from n on being below column up
+abbrev pub holderIn : ℕ → ℕ → ℕ → Forest Column → ℕ
+holderIn k up n none = up
+holderIn k up n (tree x below rest) = cond (eqb k n) up (cond (ltb k (n + 1 + size below)) (holderIn k n (n + 1) below) (holderIn k up (n + 1 + size below) rest))
+
+abbrev pub holder : Model → ℕ → ℕ
+holder m k = holderIn k 0 1 (m .columns)
+
+-- the rows of a list column over an element result of this length: a fixed-size list has as many as the result fills
+abbrev pub rowsBy : Code → ℕ → ℕ → ℕ
+rowsBy bits len l = len
+rowsBy (words w) len l = len
+rowsBy (variable t) len l = len
+rowsBy (fixedSizeBinary w) len l = len
+rowsBy structs len l = len
+rowsBy lists len l = len
+rowsBy largeLists len l = len
+rowsBy (fixedSizeLists s) len l = l / s
+rowsBy maps len l = len
+
+-- the spans of a column's first slots: one that ends past a result; a null of a result in the span of a slot that is not null
+abbrev pub pastEnd : Column → ℕ → ℕ → Bool
+pastEnd x rows l = some (λ i. ltb l (span x i .1)) (upto rows)
+
+abbrev pub nullIn : Column → ℕ → List Value → Bool
+nullIn x rows t = some (λ i. not (null x i) && some (λ j. isNull (slot t j .0)) (cut x i)) (upto rows)
+
+-- a row for each of so many slots: null where the slot is null, else this item over these parts
+abbrev pub rowed : Column → ℕ → Item → (ℕ → Values) → List Value
+rowed x rows it below = each (λ i. (cond (null x i) nothing it, cond (null x i) none (below i))) (upto rows)
+
+-- a struct's parts at a slot: the slot's value in each field's result
+abbrev pub across : List (List Value) → ℕ → Values
+across [] i = none
+across (t ∷ ts) i = put (slot t i) (across ts i)
+
+-- a list's parts: the values of the element result that the slot cuts out
+abbrev pub elements : Column → List Value → ℕ → Values
+elements x t i = joined (λ j. put (slot t j) none) (cut x i)
+
+-- the pairs that a map's slot keeps, as (key slot, value slot): a repeated key at its first place with its first key and its last value
+abbrev pub pairs : Column → List Value → ℕ → List (ℕ × ℕ)
+pairs x ks i = kept (λ a b. alike (slot ks a .0) (slot ks b .0)) (cut x i)
+
+abbrev pub entries : Column → List Value → List Value → ℕ → Values
+entries x ks vs i = joined (λ (kv : ℕ × ℕ). put (slot ks (kv .0)) (put (slot vs (kv .1)) none)) (pairs x ks i)
+
+-- two cells for each kept pair of a slot that is not null
+abbrev pub pairCells : Column → List Value → ℕ
+pairCells x ks = 2 * sum (λ i. cond (null x i) 0 (length (pairs x ks i))) (upto (x .len))
+
+-- a field result that has not as many rows as the struct's column
+abbrev pub uneven : ℕ → List (List Value) → Bool
+uneven l [] = false
+uneven l (t ∷ ts) = cond (eqb (length t) l) (uneven l ts) true
+
+module _ (m : Model) (cells : ℕ) where
+  -- so many more cells, if they fit
+  abbrev pub taking : ℕ → ℕ → ℕ → List Value → Step ℕ (List Value)
+  taking n c more t taken = cond (leb (taken + more) cells) (Ok t, taken + more) (Err (fault 21 c n), taken)
+
+  -- a required field's null at a slot where the struct that holds the column is not null
+  abbrev pub bare : ℕ → List Value → Bool
+  bare c t = some (λ i. not (struct? m (holder m c) && null (at m (holder m c)) i) && isNull (slot t i .0)) (upto (length t))
+
+  abbrev pub fieldStep : ℕ → ℕ → List Value → Step ℕ (List Value)
+  fieldStep n c t =
+      sought m (requiredOf (fieldAt m n)) n c (λ required.
+      unless (required && bare c t) (fault 15 c n)
+      (ret t))
+
+  abbrev pub primitiveStep : ℕ → ℕ → Step ℕ (List Value)
+  primitiveStep n c =
+      sought m (primOf (typeAt m n)) n c (λ p.
+      unless (not (accepts p (at m c .code))) (fault 14 c n)
+      (taking n c (at m c .len) (each (λ i. (item (prim p) (at m c) i, none)) (upto (at m c .len)))))
+
+  abbrev pub structStep : ℕ → ℕ → List (List Value) → Step ℕ (List Value)
+  structStep n c ts =
+      sought m (structOf (typeAt m n)) n c (λ _.
+      unless (uneven (at m c .len) ts) (fault 17 c n)
+      (unless (eqb (length ts) 0 && not (struct? m c)) (fault 14 c n)
+      (taking n c (at m c .len + length ts * at m c .len) (rowed (at m c) (at m c .len) record′ (across ts)))))
+
+  abbrev pub listStep : ℕ → ℕ → List Value → Step ℕ (List Value)
+  listStep n c t =
+      let rows : ℕ = rowsBy (at m c .code) (at m c .len) (length t) in
+      sought m (listOf (typeAt m n)) n c (λ required.
+      unless (not (list? m c)) (fault 12 c n)
+      (unless (pastEnd (at m c) rows (length t)) (fault 20 c n)
+      (unless (required && nullIn (at m c) rows t) (fault 16 c n)
+      (taking n c rows (rowed (at m c) rows sequence (elements (at m c) t))))))
+
+  abbrev pub mapStep : ℕ → ℕ → List Value → List Value → Step ℕ (List Value)
+  mapStep n c ks vs =
+      let rows : ℕ = at m c .len in
+      sought m (mapOf (typeAt m n)) n c (λ required.
+      unless (not (map? m c)) (fault 13 c n)
+      (unless (not (eqb (length ks) (length vs))) (fault 18 c n)
+      (unless (pastEnd (at m c) rows (length ks)) (fault 20 c n)
+      (unless (nullIn (at m c) rows ks) (fault 19 c n)
+      (unless (required && nullIn (at m c) rows vs) (fault 16 c n)
+      (taking n c (rows + pairCells (at m c) ks) (rowed (at m c) rows mapping (entries (at m c) ks vs))))))))
+
+  -- the converter: the state is the number of cells taken, a result the values of a column's slots
+  abbrev pub converter : Hooks ℕ (List Value)
+  converter = record {
+    before = λ r n c. ret tt;
+    after = λ r n c. ret tt;
+    onField = fieldStep;
+    onPrimitive = primitiveStep;
+    onStruct = structStep;
+    onList = listStep;
+    onMap = mapStep;
+  }
+
+-- conversion of the schema's struct at column 0, from no cells taken, as a walk
+abbrev pub conversion : Model → Pick → ℕ → Result (List Value) StepFault × ℕ
+conversion m pick cells = visitsStruct m pick (converter m cells) 0 0
+
+-- the walk gives the rows and takes the cells of `converts`, and it refuses exactly as `converts` does
+pub record Converted (m : Model) (pick : Pick) (cells : ℕ) : Type 0 where
+  pub accepted : (t : ℕ) → converts m pick cells ≡ Ok t → conversion m pick cells ≡ (Ok (listed (rows m pick)), t)
+  pub refused : (f : StepFault) → converts m pick cells ≡ Err f → conversion m pick cells .0 ≡ Err f
+  pub exactly : (f : StepFault) → conversion m pick cells .0 ≡ Err f → converts m pick cells ≡ Err f
+
+abbrev pub Converted-law : Type 0
+Converted-law = (m : Model) → Enough m → Filed m → (pick : Pick) → Own m pick → (cells : ℕ) → Converted m pick cells
+
+-- the same, from the rules tree by tree
+abbrev pub Converted-trees : Type 0
+Converted-trees = (m : Model) → Rules m → Formed (m .fields) → Stored (m .columns) → (pick : Pick) → Own m pick → (cells : ℕ) → Converted m pick cells

@@ -1,0 +1,106 @@
+-- The items of a batch file, and how reading one is refused.
+use mathlib.Core.List.{List, [], _∷_}
+use mathlib.Core.Bool.{Bool, true, false, cond, _&&_}
+use Prim.Native.Nat.{ℕ, zero, suc, _+_, _-_, _*_, _^_, _/_}
+use lib.Dec.{ltb, leb, eqb}
+use lib.IntN.{ℤ, pos, negsuc}
+use lib.ListN.{length, take, drop}
+use Rattle.std.specs.declared.option.Option.{Option}
+use Rattle.std.specs.declared.option.Option.the-variants.{Some, None}
+use Rattle.std.specs.declared.result.Result.{Result}
+use Rattle.std.specs.declared.result.Result.the-variants.{Ok, Err}
+
+-- what holds a byte: the file's own numbers, a field or a column
+pub data Entry : Type 0 where
+  head : Entry
+  field : ℕ → Entry
+  column : ℕ → Entry
+
+pub record BatchFault : Type 0 where
+  pub number : ℕ
+  pub byte : ℕ
+  pub entry : Entry
+
+-- the bytes that are left, and how many came before them
+pub record Rest : Type 0 where
+  pub bytes : List ℕ
+  pub at : ℕ
+
+abbrev pub refused : {X : Type 0} → ℕ → ℕ → Entry → Result X BatchFault
+refused n b e = Err (record { number = n; byte = b; entry = e })
+
+abbrev pub skip : ℕ → Rest → Rest
+skip n r = record { bytes = drop n (r .bytes); at = r .at + n }
+
+abbrev pub Read : Type 0 → Type 0
+Read X = Rest → Result (X × Rest) BatchFault
+
+abbrev pub carry : {X Y : Type 0} → (X → Read Y) → Result (X × Rest) BatchFault → Result (Y × Rest) BatchFault
+carry f (Ok (x, r)) = f x r
+carry f (Err e) = Err e
+
+-- one after the other, up to the first refusal
+infixl 1 _then_
+abbrev pub _then_ : {X Y : Type 0} → Read X → (X → Read Y) → Read Y
+(m then f) r = carry f (m r)
+
+abbrev pub give : {X : Type 0} → X → Read X
+give x r = Ok (x, r)
+
+-- n bytes as one item
+abbrev pub exactly : Entry → ℕ → Read (List ℕ)
+exactly e n r = cond (ltb (length (r .bytes)) n) (refused 1 (r .at) e) (Ok (take n (r .bytes), skip n r))
+
+abbrev pub first : List ℕ → ℕ
+first [] = 0
+first (b ∷ bs) = b
+
+-- a byte, and the test that it is one that is listed
+abbrev pub byte : Entry → (ℕ → Bool) → Read ℕ
+byte e listed = exactly e 1 then (λ bs r. cond (listed (first bs)) (Ok (first bs, r)) (refused 3 (r .at - 1) e))
+
+abbrev pub flag : Entry → Read Bool
+flag e = byte e (λ b. leb b 1) then (λ b. give (eqb b 1))
+
+-- the value of a number and how many bytes it has; or refusal 1 or 2
+pub data Number : Type 0 where
+  value : ℕ → ℕ → Number
+  cut : Number
+  long : Number
+
+-- group k of a number, k from 0, the value of the groups before it being v
+abbrev pub groups : ℕ → ℕ → ℕ → List ℕ → Number
+groups zero k v bs = long
+groups (suc left) k v [] = cut
+groups (suc left) k v (b ∷ bs) =
+    cond (eqb k 4 && leb 16 b) long
+    (cond (leb 128 b) (groups left (k + 1) (v + (b - 128) * 2 ^ (7 * k)) bs)
+    (cond (eqb b 0 && leb 1 k) long (value (v + b * 2 ^ (7 * k)) (k + 1))))
+
+abbrev pub numeral : List ℕ → Number
+numeral bs = groups 5 0 0 bs
+
+abbrev pub counted : Entry → Rest → Number → Result (ℕ × Rest) BatchFault
+counted e r (value v n) = Ok (v, skip n r)
+counted e r cut = refused 1 (r .at) e
+counted e r long = refused 2 (r .at) e
+
+abbrev pub number : Entry → Read ℕ
+number e r = counted e r (numeral (r .bytes))
+
+-- a number with a limit
+abbrev pub limited : Entry → ℕ → Read ℕ
+limited e most r = carry (λ v r′. cond (leb v most) (Ok (v, r′)) (refused 4 (r .at) e)) (number e r)
+
+-- a name or an id text is one item: its number and its bytes; a cut comes before the limit
+abbrev pub text : Entry → Read (List ℕ)
+text e r =
+    carry (λ n r′. cond (ltb (length (r′ .bytes)) n) (refused 1 (r .at) e) (cond (leb n 255) (Ok (take n (r′ .bytes), skip n r′)) (refused 4 (r .at) e))) (number e r)
+
+-- low byte first
+abbrev pub little : List ℕ → ℕ
+little [] = 0
+little (b ∷ bs) = b + 256 * little bs
+
+abbrev pub signed : ℕ → ℕ → ℤ
+signed w n = cond (ltb n (2 ^ (8 * w - 1))) (pos n) (negsuc (2 ^ (8 * w) - n - 1))
