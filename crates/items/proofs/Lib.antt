@@ -1,0 +1,5 @@
+pub mod Groups
+pub mod Taken
+pub mod Words
+pub mod Ids
+pub mod Filling

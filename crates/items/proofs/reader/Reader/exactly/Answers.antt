@@ -1,0 +1,17 @@
+use mathlib.Core.Path.{refl, ap, _∙_}
+use native.Mathlib.Omega.{arith}
+use Rattle.std.specs.declared.result.Result.the-variants.{Err}
+use Rattle.fault.specs.Faults.{entryOf}
+use Rattle.items.proofs.Taken.{exactly-cut, exactly-there}
+use Rattle.items.proofs.reader.Reader.exactly.Needs as need
+
+pub returns-then-self-start : need.returns-then-self-start
+returns-then-self-start c =
+    record {
+      same = refl;
+      does = ap Err (c .new .ensures) ∙ exactly-cut (c .args .self .now .bytes .now) (c .args .self .now .at) (c .args .n) (entryOf (c .args .entry)) (omega arith);
+    }
+
+pub returns : need.returns
+returns c =
+    record { same = refl; does = exactly-there (c .args .self .now .bytes .now) (c .args .self .now .at) (c .args .n) (entryOf (c .args .entry)) (omega arith) }

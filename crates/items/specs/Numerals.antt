@@ -1,0 +1,9 @@
+-- What the code's answer about a number says in the words of the definitions.
+use Rattle.meaning.specs.Items as items
+use Rattle.items.specs.declared.numeral.Number.{Number}
+use Rattle.items.specs.declared.numeral.Number.the-variants.{Value, Cut, Long}
+
+abbrev pub meant : Number → items.Number
+meant (Value v n) = items.value v n
+meant Cut = items.cut
+meant Long = items.long
