@@ -2,4 +2,6 @@ pub mod Groups
 pub mod Taken
 pub mod Words
 pub mod Ids
+pub mod Placing
+pub mod Seeking
 pub mod Filling

@@ -6,6 +6,9 @@ use native.Mathlib.Omega.{arith}
 use lib.ListN.{length, take, drop, getD}
 use Rattle.std.proofs.shelf.Lists.{drop-more}
 use Rattle.meaning.specs.Items.{little}
+use Rattle.items.specs.Widths.{wide}
+use Rattle.items.specs.declared.width.Width.{Width}
+use Rattle.items.specs.declared.width.Width.the-variants.{Four, Eight}
 
 module _ (bs : List ℕ) (at : ℕ) where
   next : (k : ℕ) → at + k + 1 ≤ length bs → drop (at + k) bs ≡ getD bs (at + k) 0 ∷ drop (at + (k + 1)) bs
@@ -41,3 +44,17 @@ module _ (bs : List ℕ) (at : ℕ) where
       = cc
       in
       ap (λ xs. little (take 8 xs)) l ∙ omega arith
+
+  -- the same at a width, for what a call gave
+  pub four-at :
+      (w : Width) (x : ℕ) → w ≡ Four → at + wide w ≤ length bs → x ≡ getD bs at 0 + getD bs (at + 1) 0 * 256 + getD bs (at + 2) 0 * 65536 + getD bs (at + 3) 0 * 16777216
+      → x ≡ little (take (wide w) (drop at bs))
+  four-at w x is h e = let n : wide w ≡ 4 = ap (λ v. wide v) is in e ∙ sym (four (omega arith)) ∙ ap (λ k. little (take k (drop at bs))) (sym n)
+
+  pub eight-at :
+      (w : Width) (x : ℕ) → w ≡ Eight → at + wide w ≤ length bs
+      → x
+        ≡ getD bs at 0 + getD bs (at + 1) 0 * 256 + getD bs (at + 2) 0 * 65536 + getD bs (at + 3) 0 * 16777216 + getD bs (at + 4) 0 * 4294967296 + getD bs (at + 5) 0 * 1099511627776
+          + getD bs (at + 6) 0 * 281474976710656 + getD bs (at + 7) 0 * 72057594037927936
+      → x ≡ little (take (wide w) (drop at bs))
+  eight-at w x is h e = let n : wide w ≡ 8 = ap (λ v. wide v) is in e ∙ sym (eight (omega arith)) ∙ ap (λ k. little (take k (drop at bs))) (sym n)

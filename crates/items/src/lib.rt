@@ -1,8 +1,12 @@
 mod item;
 mod numeral;
+mod offsets;
 mod reader;
+mod width;
 
 pub use numeral::Number;
 pub use numeral::number_at;
+pub use reader::Offsets;
 pub use reader::Reader;
 pub use reader::Span;
+pub use width::Width;
