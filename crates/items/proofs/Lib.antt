@@ -5,3 +5,4 @@ pub mod Ids
 pub mod Placing
 pub mod Seeking
 pub mod Filling
+pub mod Siblings

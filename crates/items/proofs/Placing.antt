@@ -46,9 +46,9 @@ passed x G v r false false = refl
 
 one-then : (w n k last at : ℕ) (m : Result (List ℕ × Rest) Fault)
     → carry (λ bs r. cond (leb (2 ^ (8 * w - 1)) (little bs)) (refused 5 at (column n))
-          (cond (ltb (little bs) last) (refused 5 at (column n)) (carry (λ os. give ((little bs, at) ∷ os)) (offsets w n k (little bs) r)))) m
-      ≡ carry (λ v r. carry (λ os. give ((v, at) ∷ os)) (offsets w n k v r))
-          (carry (λ bs r. cond (leb (2 ^ (8 * w - 1)) (little bs)) (refused 5 at (column n)) (cond (ltb (little bs) last) (refused 5 at (column n)) (Ok (little bs, r)))) m)
+    (cond (ltb (little bs) last) (refused 5 at (column n)) (carry (λ os. give ((little bs, at) ∷ os)) (offsets w n k (little bs) r)))) m
+    ≡ carry (λ v r. carry (λ os. give ((v, at) ∷ os)) (offsets w n k v r))
+    (carry (λ bs r. cond (leb (2 ^ (8 * w - 1)) (little bs)) (refused 5 at (column n)) (cond (ltb (little bs) last) (refused 5 at (column n)) (Ok (little bs, r)))) m)
 one-then w n k last at (Ok (bs, r)) =
     passed (record { number = 5; byte = at; entry = column n }) (λ v r. carry (λ os. give ((v, at) ∷ os)) (offsets w n k v r)) (little bs) r (leb (2 ^ (8 * w - 1)) (little bs)) (ltb (little bs) last)
 one-then w n k last at (Err e) = refl
@@ -62,11 +62,12 @@ held x v u q r false false e = cc
 read-there : (e : Entry) (w last : ℕ) (bs : List ℕ) (at v : ℕ) (q : Rest) → Ok (v, q) ≡ offsetAfter e w last (from bs at) → _≡_ {A = ℕ × Rest} (v, q) (little (take w (drop at bs)), from bs (at + w))
 read-there e w last bs at v q h =
     let K : List ℕ → Read ℕ = λ bs r. cond (leb (2 ^ (8 * w - 1)) (little bs)) (refused 5 at e) (cond (ltb (little bs) last) (refused 5 at e) (Ok (little bs, r))) in
-    elim (leb-tells w (length bs - at))
-    [ inl t ↦
-        held (record { number = 5; byte = at; entry = e }) v (little (take w (drop at bs))) q (from bs (at + w)) (leb (2 ^ (8 * w - 1)) (little (take w (drop at bs)))) (ltb (little (take w (drop at bs))) last)
+    elim (leb-tells w (length bs - at)) [
+      | inl t ↦
+          held (record { number = 5; byte = at; entry = e }) v (little (take w (drop at bs))) q (from bs (at + w)) (leb (2 ^ (8 * w - 1)) (little (take w (drop at bs)))) (ltb (little (take w (drop at bs))) last)
           (h ∙ sym (ap (carry K) (exactly-there bs at w e (t .1))))
-    | inr f ↦ absurd (let bad = h ∙ sym (ap (carry K) (exactly-cut bs at w e (f .1))) in let z : _≡_ {A = ℕ} 0 1 = cc in omega arith) ]
+      | inr f ↦ absurd (let bad = h ∙ sym (ap (carry K) (exactly-cut bs at w e (f .1))) in let z : _≡_ {A = ℕ} 0 1 = cc in omega arith)
+    ]
 
 -- What the loop keeps.
 pub record Passing (before now : Reader) (w count n start last turn : ℕ) : Type 0 where
@@ -82,7 +83,7 @@ starts r w count n =
       same = refl;
       begun = refl;
       here = omega (arith, mul-zero w);
-      left = upon-none (offsets w n (count - 0) 0 (rest r)) ∙ ap (λ k. offsets w n k 0 (rest r)) e
+      left = upon-none (offsets w n (count - 0) 0 (rest r)) ∙ ap (λ k. offsets w n k 0 (rest r)) e;
     }
 
 module _ {before now : Reader} {w count n start last turn : ℕ} (p : Passing before now w count n start last turn) where
@@ -118,10 +119,10 @@ module _ {before now : Reader} {w count n start last turn : ℕ} (p : Passing be
       let moved : now′ .at ≡ now .at + w = ap (λ x. x .1 .at) found in
       let more : turn + 1 ≡ suc turn = omega arith in
       let last-one : _≡_ {A = ℕ × ℕ} (little (take w (drop (start + w * turn) (file before))), start + w * turn) (v, now .at) =
-            ap (λ a. (little (take w (drop a (file before))), a)) (sym (p .here)) ∙ ap (λ b. (little (take w (drop (now .at) b)), now .at)) (sym (p .same)) ∙ ap (λ u. (u, now .at)) (sym is)
+      ap (λ a. (little (take w (drop a (file before))), a)) (sym (p .here)) ∙ ap (λ b. (little (take w (drop (now .at) b)), now .at)) (sym (p .same)) ∙ ap (λ u. (u, now .at)) (sym is)
       in
       let list : placed w (file before) start (turn + 1) ≡ placed w (file before) start turn ++ ((v, now .at) ∷ []) =
-            ap (λ k. placed w (file before) start k) more ∙ placed-more w (file before) start turn ∙ ap (λ x. placed w (file before) start turn ++ (x ∷ [])) last-one
+      ap (λ k. placed w (file before) start k) more ∙ placed-more w (file before) start turn ∙ ap (λ x. placed w (file before) start turn ++ (x ∷ [])) last-one
       in
       let rests : Result (Offsets × Rest) Fault = offsets w n (count - (turn + 1)) v (rest now′) in
       record {
@@ -129,6 +130,6 @@ module _ {before now : Reader} {w count n start last turn : ℕ} (p : Passing be
         begun = p .begun;
         here = moved ∙ omega (arith, mul-suc w turn, ap (λ k. w * k) more);
         left =
-          ap (λ l. upon l rests) list ∙ upon-one (placed w (file before) start turn) (v, now .at) rests
-          ∙ ap (upon (placed w (file before) start turn)) (ap (carry (λ v r. carry (λ os. give ((v, now .at) ∷ os)) (offsets w n (count - (turn + 1)) v r))) e ∙ sym (opened h)) ∙ p .left
+            ap (λ l. upon l rests) list ∙ upon-one (placed w (file before) start turn) (v, now .at) rests
+            ∙ ap (upon (placed w (file before) start turn)) (ap (carry (λ v r. carry (λ os. give ((v, now .at) ∷ os)) (offsets w n (count - (turn + 1)) v r))) e ∙ sym (opened h)) ∙ p .left;
       }

@@ -53,6 +53,6 @@ module _ {bs : List ℕ} {w start count limit at turn : ℕ} (s : Seeking bs w s
           whole = s .whole;
           fits = omega (arith, s .fits, ap (λ k. w * k) more, mul-suc w (count - (turn + 1)));
           left =
-            ap (λ x. past (placed w bs (at + x) (count - (turn + 1))) limit) width
-            ∙ sym (if-false (Some at) (past (placed w bs (at + w) (count - (turn + 1))) limit) t) ∙ sym (ap (λ k. past (placed w bs at k) limit) more) ∙ s .left
+              ap (λ x. past (placed w bs (at + x) (count - (turn + 1))) limit) width
+              ∙ sym (if-false (Some at) (past (placed w bs (at + w) (count - (turn + 1))) limit) t) ∙ sym (ap (λ k. past (placed w bs at k) limit) more) ∙ s .left;
         }

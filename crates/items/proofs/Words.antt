@@ -54,7 +54,7 @@ module _ (bs : List ℕ) (at : ℕ) where
   pub eight-at :
       (w : Width) (x : ℕ) → w ≡ Eight → at + wide w ≤ length bs
       → x
-        ≡ getD bs at 0 + getD bs (at + 1) 0 * 256 + getD bs (at + 2) 0 * 65536 + getD bs (at + 3) 0 * 16777216 + getD bs (at + 4) 0 * 4294967296 + getD bs (at + 5) 0 * 1099511627776
-          + getD bs (at + 6) 0 * 281474976710656 + getD bs (at + 7) 0 * 72057594037927936
+      ≡ getD bs at 0 + getD bs (at + 1) 0 * 256 + getD bs (at + 2) 0 * 65536 + getD bs (at + 3) 0 * 16777216 + getD bs (at + 4) 0 * 4294967296 + getD bs (at + 5) 0 * 1099511627776
+      + getD bs (at + 6) 0 * 281474976710656 + getD bs (at + 7) 0 * 72057594037927936
       → x ≡ little (take (wide w) (drop at bs))
   eight-at w x is h e = let n : wide w ≡ 8 = ap (λ v. wide v) is in e ∙ sym (eight (omega arith)) ∙ ap (λ k. little (take k (drop at bs))) (sym n)

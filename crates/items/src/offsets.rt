@@ -10,7 +10,6 @@ ghost use Rattle.items.specs.Reading.{Reads, file};
 ghost use Rattle.items.specs.Widths.{wide};
 ghost use Rattle.std.specs.Vec.{made};
 ghost use Rattle.std.specs.declared.option.Option.the-variants.{None};
-
 use crate::reader::Offsets;
 use crate::reader::Reader;
 use crate::width::Width;
@@ -43,7 +42,11 @@ impl Reader<'_> {
         for _ in 0..count {
             last = self.offset(width, last, Entry::Column(n))?;
         }
-        Ok(Offsets { width, count, start })
+        Ok(Offsets {
+            width,
+            count,
+            start,
+        })
     }
 
     // The byte of the first of these offsets that is past `limit`; none where they do not all stand in the file.

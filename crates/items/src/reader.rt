@@ -1,7 +1,6 @@
 ghost use Prim.Native.Nat.{_≤_};
 ghost use lib.ListN.{length};
 ghost use denote.Ref.{now};
-
 use crate::width::Width;
 
 // The bytes of a file, and how many of them have been read.

@@ -39,6 +39,15 @@ pub(crate) fn word_at(b: &[u8], at: usize, width: Width) -> u64
 {
     match width {
         Width::Four => u64::from(u32::from_le_bytes([b[at], b[at + 1], b[at + 2], b[at + 3]])),
-        Width::Eight => u64::from_le_bytes([b[at], b[at + 1], b[at + 2], b[at + 3], b[at + 4], b[at + 5], b[at + 6], b[at + 7]]),
+        Width::Eight => u64::from_le_bytes([
+            b[at],
+            b[at + 1],
+            b[at + 2],
+            b[at + 3],
+            b[at + 4],
+            b[at + 5],
+            b[at + 6],
+            b[at + 7],
+        ]),
     }
 }

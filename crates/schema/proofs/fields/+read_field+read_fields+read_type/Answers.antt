@@ -16,7 +16,8 @@ use Rattle.items.specs.Reading.{file, rest, part}
 use Rattle.items.proofs.Filling.{filled-none, refuses}
 use Rattle.schema.proofs.Typing.{headed, field-from, field-read, by-form}
 use Rattle.schema.specs.Fields.{fieldTable}
-use Rattle.schema.proofs.Siblings.{start, finish, stuck, fails, again}
+use Rattle.items.proofs.Siblings.{start, finish, stuck, fails, again}
+use Rattle.schema.proofs.Siblings.{fieldFamily}
 use Rattle.schema.proofs.fields.+read_field+read_fields+read_type.Needs as need
 
 pub read-field-returns-in-Break-kind : need.read-field-returns-in-Break-kind
@@ -43,7 +44,7 @@ read-field-returns t c =
     (c .args .table .now) (c .read-type .last .table) (d .does .0) z (i .same) (f .same) (n .same) (d .same) (i .does) (f .does) (n .does) (d .does .1) (d .does .2) (omega arith) (search needs)
 
 pub read-fields-loop-holds : need.read-fields-loop-holds
-read-fields-loop-holds t c = start (c .args .reader .now) (c .args .table .now) (c .args .level) (c .args .count) (c .args .key) (c .args .n) (c .pre .1) (c .pre .0)
+read-fields-loop-holds t c = start fieldTable fieldFamily (c .args .reader .now) (c .args .table .now) (c .args .level) (c .args .count) (c .args .key) (c .args .n) (c .pre .1) (c .pre .0)
 
 pub read-fields-returns-then-level-eq0 : need.read-fields-returns-then-level-eq0
 read-fields-returns-then-level-eq0 t c =

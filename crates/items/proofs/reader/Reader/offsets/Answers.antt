@@ -18,7 +18,7 @@ returns-in-Break-last c =
     let b = c .in-Break-last .ensures tt in
     record {
       reads = refuses-read (p .0) (c .in-Break-last .field-0 .0) (b .same ∙ c .loop .inv .same) (p .1) (p .2) (breaks (c .loop .inv) (omega arith) _ (b .does));
-      stand = subst (λ r. made r (Standing (file (c .args .self .now)) (c .args .width) (c .args .count))) (sym (p .1)) tt
+      stand = subst (λ r. made r (Standing (file (c .args .self .now)) (c .args .width) (c .args .count))) (sym (p .1)) tt;
     }
 
 pub loop-again : need.loop-again
@@ -30,5 +30,5 @@ pub returns : need.returns
 returns c =
     record {
       reads = record { same = c .loop .inv .same; does = ends (c .loop .inv) (omega arith) (omega arith) };
-      stand = record { sized = refl; many = refl; fits = standing (c .loop .inv) (omega arith) (omega arith) (c .loop .self .ok) }
+      stand = record { sized = refl; many = refl; fits = standing (c .loop .inv) (omega arith) (omega arith) (c .loop .self .ok) };
     }

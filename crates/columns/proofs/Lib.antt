@@ -1,0 +1,4 @@
+pub mod Coded
+pub mod Siblings
+pub mod Heading
+pub mod Mapping

@@ -1,0 +1,4 @@
+pub mod Codes
+pub mod Needs
+pub mod Entries
+pub mod Bodies
