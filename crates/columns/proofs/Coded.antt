@@ -13,19 +13,13 @@ use Rattle.meaning.specs.Model as model
 use Rattle.meaning.specs.Items.{Entry, column, BatchFault as Fault, Rest, Read, refused, carry, exactly, first, byte, limited}
 use Rattle.meaning.specs.Columns.{codeOf, detailed}
 use Rattle.columns.specs.Codes.{listed}
-use Rattle.items.proofs.Taken.{if-true, if-false}
+use Rattle.items.proofs.Taken.{if-true, if-false, listed-byte}
 
 -- a width or a size, which may not be 0
 abbrev pub withDetail : ℕ → ℕ → ℕ → ℕ → Read model.Code
 withDetail n c at d r = cond (eqb d 0) (refused 7 at (column n)) (Ok (detailed c d, r))
 
 module _ (n : ℕ) where
-  tested : (m : Result (List ℕ × Rest) Fault)
-      → carry (λ c r. cond (listed c) (Ok (c, r)) (refused 3 (r .at - 1) (column n))) (carry (λ bs r. Ok (first bs, r)) m)
-      ≡ carry (λ bs r. cond (listed (first bs)) (Ok (first bs, r)) (refused 3 (r .at - 1) (column n))) m
-  tested (Ok (bs, r)) = refl
-  tested (Err e) = refl
-
   abbrev goesOn : ℕ → Read model.Code
   goesOn c r = cond (cond (eqb c 13) true (eqb c 19)) (carry (withDetail n c (r .at)) (limited (column n) 65536 r)) (Ok (detailed c 0, r))
 
@@ -35,9 +29,7 @@ module _ (n : ℕ) where
       let l : listed c ≡ true = elim which [ inl h ↦ ap listed h | inr h ↦ ap listed h ] in
       let d : cond (eqb c 13) true (eqb c 19) ≡ true = elim which [ inl h ↦ ap (λ c. cond (eqb c 13) true (eqb c 19)) h | inr h ↦ ap (λ c. cond (eqb c 13) true (eqb c 19)) h ] in
       sym (if-true (carry (withDetail n c (r1 .at)) (limited (column n) 65536 r1)) (Ok (detailed c 0, r1)) d)
-      ∙ ap (carry goesOn)
-      (sym (if-true (Ok (c, r1)) (refused 3 (r1 .at - 1) (column n)) l)
-      ∙ ap (carry (λ c r. cond (listed c) (Ok (c, r)) (refused 3 (r .at - 1) (column n)))) e ∙ tested (exactly (column n) 1 r))
+      ∙ ap (carry goesOn) (listed-byte (column n) listed c r r1 e l)
 
   pub detail-is : (c at d : ℕ) (x : model.Code) (q : Rest) → d ≢ 0 → x ≡ detailed c d → Ok (x, q) ≡ withDetail n c at d q
   detail-is c at d x q ne is =

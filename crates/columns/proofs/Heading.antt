@@ -20,16 +20,12 @@ use Rattle.items.specs.Cuts.{offsetsOf}
 use Rattle.items.specs.Reading.{file, rest, part}
 use Rattle.items.specs.Tables.{Filled, Fills}
 use Rattle.items.proofs.Filling.{filled-tree}
+use Rattle.items.proofs.Taken.{then-then}
 use Rattle.columns.specs.declared.code.Code.{Code}
 use Rattle.columns.specs.declared.entry.Body.{Body as Body′}
 use Rattle.columns.specs.declared.entry.ColumnEntry.{ColumnEntry}
 use Rattle.columns.specs.Codes.{codeMeant}
 use Rattle.columns.specs.Entries.{bodyMeant, columnOf, columnTable, oneColumn, optionally}
-
--- a flag and what follows it, and then more
-flagged : {X Y : Type 0} (F : Option X → Read Y) (m : Read X) (o : Result (Bool × Rest) Fault) → carry F (carry (λ has. maybe has m) o) ≡ carry (λ has r. carry F (maybe has m r)) o
-flagged F m (Ok (has, r)) = refl
-flagged F m (Err e) = refl
 
 -- a column as a tree of its own
 abbrev pub alone : Result ((model.Column × Forest model.Column) × Rest) Fault → Result (Forest model.Column × Rest) Fault
@@ -63,7 +59,7 @@ module _ (kids : Columns) (need : Need) (os : Offsets) (owner n : ℕ) where
 
   module _ (name : List ℕ) (r0 r1 : Rest) (e1 : Ok (name, r1) ≡ text (column n) r0) where
     pub id-read : (m : Result (Option (List ℕ) × Rest) Fault) → m ≡ optionally (column n) (text (column n)) r1 → carry (afterId name) m ≡ columned kids need os owner n r0
-    id-read m e = ap (carry (afterId name)) e ∙ flagged (afterId name) (text (column n)) (flag (column n) r1) ∙ ap (carry afterName) e1
+    id-read m e = ap (carry (afterId name)) e ∙ then-then (afterId name) (λ has. maybe has (text (column n))) (flag (column n) r1) ∙ ap (carry afterName) e1
 
     module _ (id : Option (List ℕ)) (r2 : Rest) (e2 : Ok (id, r2) ≡ optionally (column n) (text (column n)) r1) where
       pub code-read : (m : Result (model.Code × Rest) Fault) → m ≡ codeOf n r2 → carry (afterCode name id) m ≡ columned kids need os owner n r0
@@ -75,7 +71,7 @@ module _ (kids : Columns) (need : Need) (os : Offsets) (owner n : ℕ) where
 
         module _ (len : ℕ) (r4 : Rest) (e4 : Ok (len, r4) ≡ lengthOf n need os owner r3) where
           pub validity-read : (m : Result (Option (List ℕ) × Rest) Fault) → m ≡ optionally (column n) (bits len) r4 → carry (afterValidity name id code len) m ≡ columned kids need os owner n r0
-          validity-read m e = ap (carry (afterValidity name id code len)) e ∙ flagged (afterValidity name id code len) (bits len) (flag (column n) r4) ∙ length-read (Ok (len, r4)) e4
+          validity-read m e = ap (carry (afterValidity name id code len)) e ∙ then-then (afterValidity name id code len) (λ has. maybe has (bits len)) (flag (column n) r4) ∙ length-read (Ok (len, r4)) e4
 
           pub body-read : (validity : Option (List ℕ)) (r5 : Rest) → Ok (validity, r5) ≡ optionally (column n) (bits len) r4 → (m : Result (Body × Rest) Fault) → m ≡ bodyOf kids n len code r5
               → carry (afterBody name id code len validity) m ≡ columned kids need os owner n r0

@@ -13,23 +13,13 @@ ghost use Rattle.columns.specs.Bodies.{storedFrom, variableFrom};
 ghost use Rattle.columns.specs.Entries.{bodyMeant, optionally};
 ghost use Rattle.columns.specs.declared.entry.Body.{Body as Bod};
 use crate::entry::Body;
+use crate::entry::NO_OFFSETS;
 use fault::BatchFault;
 use fault::Entry;
 use fault::Refusal;
-use items::Offsets;
 use items::Reader;
 use items::Span;
 use items::Width;
-
-// No offsets, for a column that has none.
-pub(crate) const NO_OFFSETS: Offsets = Offsets {
-    width: Width::Four,
-    count: 0,
-    start: 0,
-};
-
-// No bytes, for a column that stores none of its own.
-pub(crate) const NO_BYTES: Span = Span { start: 0, len: 0 };
 
 // An id text, if a flag says that there is one.
 pub(crate) fn read_id_text(reader: &mut Reader, entry: Entry) -> Result<Option<Span>, BatchFault>

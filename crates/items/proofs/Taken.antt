@@ -86,3 +86,20 @@ pub refuses-read :
     → file after ≡ file before → res ≡ Err x → x ≡ e → Err (batchFaultOf e) ≡ read (rest before) → Reads means read before res after
 refuses-read {means = means} {read = read} {before = before} {after = after} x e same q w does =
     subst (λ r. Reads means read before r after) (sym (q ∙ ap Err w)) (record { same = same; does = does })
+
+-- one reading inside another
+pub then-then : {X Y Z : Type 0} (F : Y → Read Z) (G : X → Read Y) (m : Result (X × Rest) Fault) → carry F (carry G m) ≡ carry (λ x r. carry F (G x r)) m
+then-then F G (Ok (x, r)) = refl
+then-then F G (Err e) = refl
+
+tested : (e : Entry) (listed : ℕ → Bool) (m : Result (List ℕ × Rest) Fault)
+    → carry (λ c r. cond (listed c) (Ok (c, r)) (refused 3 (r .at - 1) e)) (carry (λ bs r. Ok (first bs, r)) m)
+    ≡ carry (λ bs r. cond (listed (first bs)) (Ok (first bs, r)) (refused 3 (r .at - 1) e)) m
+tested e listed (Ok (bs, r)) = refl
+tested e listed (Err x) = refl
+
+-- a byte that is tested once it is read
+pub listed-byte : (e : Entry) (listed : ℕ → Bool) (c : ℕ) (r r1 : Rest) → Ok (c, r1) ≡ byte e (λ _. true) r → listed c ≡ true → Ok (c, r1) ≡ byte e listed r
+listed-byte e listed c r r1 does l =
+    sym (if-true (Ok (c, r1)) (refused 3 (r1 .at - 1) e) l)
+    ∙ ap (carry (λ c r. cond (listed c) (Ok (c, r)) (refused 3 (r .at - 1) e))) does ∙ tested e listed (exactly e 1 r)

@@ -23,6 +23,7 @@ pub data Primitive : Type 0 where
   uuid : Primitive
   fixed : ℕ → Primitive
   binary : Primitive
+  deriving IsSet as Primitive-set
 
 -- a type without what it holds, which stands below its field
 pub data Shape : Type 0 where
@@ -30,12 +31,14 @@ pub data Shape : Type 0 where
   struct : Shape
   list : Shape
   map : Shape
+  deriving IsSet as Shape-set
 
 pub record Field : Type 0 where
   pub id : ℤ
   pub required : Bool
   pub name : List ℕ
   pub shape : Shape
+  deriving IsSet as Field-set
 
 -- fixed-width values
 pub data Word : Type 0 where
@@ -47,6 +50,7 @@ pub data Word : Type 0 where
   time64 : Word
   micros : Word
   nanos : Word
+  deriving IsSet as Word-set
 
 -- bytes cut by offsets
 pub data Variable : Type 0 where
@@ -54,6 +58,7 @@ pub data Variable : Type 0 where
   largeUtf8 : Variable
   binaries : Variable
   largeBinary : Variable
+  deriving IsSet as Variable-set
 
 pub data Code : Type 0 where
   bits : Code
@@ -65,6 +70,7 @@ pub data Code : Type 0 where
   largeLists : Code
   fixedSizeLists : ℕ → Code
   maps : Code
+  deriving IsSet as Code-set
 
 pub record Column : Type 0 where
   pub name : List ℕ
@@ -74,6 +80,7 @@ pub record Column : Type 0 where
   pub validity : Option (List ℕ)
   pub offsets : List ℕ
   pub body : List ℕ
+  deriving IsSet as Column-set
 
 pub record Model : Type 0 where
   pub rows : ℕ

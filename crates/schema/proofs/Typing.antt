@@ -26,13 +26,7 @@ use Rattle.items.specs.Reading.{file, rest, part, idFrom}
 use Rattle.schema.specs.Fields.{fieldOf, fieldTable, oneField}
 use Rattle.items.specs.Tables.{Filled, Fills}
 use Rattle.items.proofs.Filling.{filled-tree}
-use Rattle.items.proofs.Taken.{if-true, if-false}
-
--- an id is used by its value alone
-by-id : {Y : Type 0} (A : ℤ → Read Y) (m : Result (List ℕ × Rest) Fault)
-    → carry A (carry (λ bs. give (signed 4 (little bs))) m) ≡ carry (λ bs. A (signed 4 (little bs))) m
-by-id A (Ok (bs, r)) = refl
-by-id A (Err e) = refl
+use Rattle.items.proofs.Taken.{if-false, listed-byte, then-then}
 
 -- the head of a field, once its type is read
 abbrev pub headed : ℤ → Bool → List ℕ → Result (Type′ × Rest) Fault → Result (Forest model.Field × Rest) Fault
@@ -56,24 +50,14 @@ module _ (kids : Fields) (key : Bool) (n : ℕ) where
       → headed id required name (typed kids key n r3) ≡ oneField kids key n r
   field-from id required name r r1 r2 r3 e1 e2 e3 =
       ap (carry (λ f. give (tree (f .0) (f .1) none)))
-      (ap (carry (λ name. afterName id required name)) e3 ∙ ap (carry (λ required. afterFlag id required)) e2 ∙ ap (carry afterId) e1 ∙ by-id afterId (exactly (field n) 4 r))
-
-  -- a byte that is tested once it is read
-  tested : (listed : ℕ → Bool) (m : Result (List ℕ × Rest) Fault)
-      → carry (λ c r. cond (listed c) (Ok (c, r)) (refused 3 (r .at - 1) (field n))) (carry (λ bs r. Ok (first bs, r)) m)
-      ≡ carry (λ bs r. cond (listed (first bs)) (Ok (first bs, r)) (refused 3 (r .at - 1) (field n))) m
-  tested listed (Ok (bs, r)) = refl
-  tested listed (Err e) = refl
+      (ap (carry (λ name. afterName id required name)) e3 ∙ ap (carry (λ required. afterFlag id required)) e2 ∙ ap (carry afterId) e1 ∙ then-then afterId (λ bs. give (signed 4 (little bs))) (exactly (field n) 4 r))
 
   -- how the type goes on after a code that is listed
   abbrev goesOn : ℕ → Read Type′
   goesOn c r = cond (eqb c 6 || (key && nested (kindOf c))) (refused 7 (r .at - 1) (field n)) (typeBy kids n (kindOf c) r)
 
   coded : (c : ℕ) (r r1 : Rest) → Ok (c, r1) ≡ byte (field n) (λ _. true) r → (leb 1 c && leb c 19) ≡ true → goesOn c r1 ≡ typed kids key n r
-  coded c r r1 e l =
-      ap (carry goesOn)
-      (sym (if-true (Ok (c, r1)) (refused 3 (r1 .at - 1) (field n)) l)
-      ∙ ap (carry (λ c r. cond (leb 1 c && leb c 19) (Ok (c, r)) (refused 3 (r .at - 1) (field n)))) e ∙ tested (λ c. leb 1 c && leb c 19) (exactly (field n) 1 r))
+  coded c r r1 e l = ap (carry goesOn) (listed-byte (field n) (λ c. leb 1 c && leb c 19) c r r1 e l)
 
   never : (b : Bool) → (b && false) ≡ false
   never true = refl

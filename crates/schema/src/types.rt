@@ -38,3 +38,14 @@ pub struct FieldEntry {
     pub kind: Kind,
     pub end: usize,
 }
+
+impl FieldEntry {
+    // The blank entry: all zero.
+    pub const BLANK: FieldEntry = FieldEntry {
+        id: 0,
+        required: false,
+        name: Span { start: 0, len: 0 },
+        kind: Kind::Primitive(Primitive::Boolean),
+        end: 0,
+    };
+}
