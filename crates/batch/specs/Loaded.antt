@@ -6,6 +6,7 @@ use Prim.Native.Nat.{ℕ}
 use lib.Dec.{ltb}
 use Rattle.std.specs.declared.result.Result.{Result}
 use Rattle.std.specs.declared.result.Result.the-variants.{Ok, Err}
+use Rattle.meaning.specs.Forest.{none}
 use Rattle.meaning.specs.Model.{Model}
 use Rattle.meaning.specs.Items as items
 use Rattle.meaning.specs.Items.{head, refused}
@@ -25,6 +26,14 @@ short nf nc = ltb nf 256 || ltb nc 256
 -- what a file means where work tables of so many entries are handed over: too short tables are refused before anything is read
 abbrev pub readIn : ℕ → ℕ → List ℕ → Result Model items.BatchFault
 readIn nf nc bytes = cond (short nf nc) (refused 4 0 head) (decode bytes)
+
+-- the batch that an accepted file means
+abbrev pub orEmpty : Result Model items.BatchFault → Model
+orEmpty (Ok m) = m
+orEmpty (Err e) = record { rows = 0; fields = none; columns = none }
+
+abbrev pub decoded : List ℕ → Model
+decoded bytes = orEmpty (decode bytes)
 
 -- a batch stands in the tables: its fields and its columns in preorder
 pub record Standing (bytes : List ℕ) (m : Model) (fields : List FieldEntry) (columns : List ColumnEntry) : Type 0 where

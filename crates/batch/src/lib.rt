@@ -1,11 +1,11 @@
-// mod batch;
+mod batch;
 mod load;
-// mod read;
+mod read;
 mod tables;
 // mod view;
 
-// pub use batch::Batch;
-// pub use batch::Unread;
+pub use batch::Batch;
+pub use batch::Unread;
 pub use tables::Tables;
 // pub use view::Column;
 // pub use view::Field;
