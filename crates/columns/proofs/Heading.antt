@@ -16,8 +16,8 @@ use Rattle.meaning.specs.Columns.{Columns, Need, Offsets, Body, values, maybe, 
 use Rattle.items.specs.declared.reader.Offsets.{Offsets as Offsets′}
 use Rattle.items.specs.declared.reader.Reader.{Reader}
 use Rattle.items.specs.declared.reader.Span.{Span}
-use Rattle.items.specs.Cuts.{offsetsOf}
-use Rattle.items.specs.Reading.{file, rest, part}
+use Rattle.items.specs.Cuts.{Fits, offsetsOf}
+use Rattle.items.specs.Reading.{Inside, file, rest, part}
 use Rattle.items.specs.Tables.{Filled, Fills}
 use Rattle.items.proofs.Filling.{filled-tree}
 use Rattle.items.proofs.Taken.{then-then}
@@ -25,7 +25,7 @@ use Rattle.columns.specs.declared.code.Code.{Code}
 use Rattle.columns.specs.declared.entry.Body.{Body as Body′}
 use Rattle.columns.specs.declared.entry.ColumnEntry.{ColumnEntry}
 use Rattle.columns.specs.Codes.{codeMeant}
-use Rattle.columns.specs.Entries.{bodyMeant, columnOf, columnTable, oneColumn, optionally}
+use Rattle.columns.specs.Entries.{BodyInside, Fitting, MaybeInside, bodyMeant, columnOf, columnTable, oneColumn, optionally}
 
 -- a column as a tree of its own
 abbrev pub alone : Result ((model.Column × Forest model.Column) × Rest) Fault → Result (Forest model.Column × Rest) Fault
@@ -89,6 +89,9 @@ pub record Begun (need : Need) (cut : Offsets′) (owner n : ℕ) (before : Read
   pub e3 : Ok (codeMeant code, rest r3) ≡ codeOf n (rest r2)
   pub e4 : Ok (len, rest r4) ≡ lengthOf n need (offsetsOf (file r3) cut) owner (rest r3)
   pub e5 : Ok (mapped (part (file r4)) validity, rest r5) ≡ optionally (column n) (exactly (column n) ((len + 7) / 8)) (rest r4)
+  pub i1 : Inside (file before) name
+  pub i2 : MaybeInside (file r1) id
+  pub i5 : MaybeInside (file r4) validity
 
 module _ (kids : Columns) {need : Need} {cut : Offsets′} {owner n : ℕ} {before : Reader} {name : Span} {id : Option Span} {code : Code} {len : ℕ} {validity : Option Span} {r1 r2 r3 r4 r5 : Reader} (b : Begun need cut owner n before name id code len validity r1 r2 r3 r4 r5) where
   -- the length was read under the holder's offsets, in whichever state the reader is
@@ -106,10 +109,10 @@ module _ (kids : Columns) {need : Need} {cut : Offsets′} {owner n : ℕ} {befo
   -- the whole column: its head is written over the columns that it holds
   pub column-read :
       (body : Body′) (after : Reader) (old mid : List ColumnEntry) (below : Forest model.Column) → file after ≡ file r5 → Ok (bodyMeant (file r5) body below, rest after) ≡ bodyOf kids n len (codeMeant code) (rest r5)
-      → Filled columnTable (file r5) old mid (n + 1) (body .end) below → 1 ≤ n → n ≤ length mid
+      → BodyInside (file r5) body → Filled columnTable (file r5) old mid (n + 1) (body .end) below → 1 ≤ n → n ≤ length mid
       → Fills columnTable (λ (m : ℕ). m) (λ _ (cs : Forest model.Column). cs) (oneColumn kids need (offsetsOf (file before) cut) owner n) n before old (Ok (body .end)) after
       (set mid (n - 1) (record { name = name; «id_text» = id; code = code; len = len; validity = validity; offsets = body .offsets; body = body .stored; end = body .end }))
-  column-read body after old mid below same e fill pos fits =
+  column-read body after old mid below same e inside fill pos fits =
       let entry : ColumnEntry = record { name = name; «id_text» = id; code = code; len = len; validity = validity; offsets = body .offsets; body = body .stored; end = body .end } in
       let to1 : file before ≡ file r1 = sym (b .s1) in
       let to4 : file before ≡ file r4 = sym (b .s4 ∙ b .s3 ∙ b .s2 ∙ b .s1) in
@@ -121,11 +124,20 @@ module _ (kids : Columns) {need : Need} {cut : Offsets′} {owner n : ℕ} {befo
       ∙ ap (λ f. record { name = part (file before) name; idText = mapped (part (file r1)) id; code = codeMeant code; len = len; validity = mapped (part f) validity; offsets = values (offsetsOf (file before) (body .offsets)); body = part (file before) (body .stored) }) to4
       ∙ ap (λ f. record { name = part (file before) name; idText = mapped (part (file r1)) id; code = codeMeant code; len = len; validity = mapped (part (file r4)) validity; offsets = values (offsetsOf f (body .offsets)); body = part f (body .stored) }) to5
       in
+      let fitting : Fitting (file before) entry =
+      record {
+        name = b .i1;
+        id = subst (λ f. MaybeInside f id) (b .s1) (b .i2);
+        validity = subst (λ f. MaybeInside f validity) (sym to4) (b .i5);
+        offsets = subst (λ f. Fits f (body .offsets)) (sym to5) (inside .offsets);
+        body = subst (λ f. Inside f (body .stored)) (sym to5) (inside .stored);
+      }
+      in
       record {
         same = same ∙ sym to5;
         does = (
           tree (columnOf (file before) entry) below none,
           ap (λ h. Ok (tree h below none, rest after)) head ∙ body-from (Ok (bodyMeant (file r5) body below, rest after)) e,
-          filled-tree columnTable (file before) old mid n (body .end) entry below pos fits refl (subst (λ f. Filled columnTable f old mid (n + 1) (body .end) below) (sym to5) fill),
+          filled-tree columnTable (file before) old mid n (body .end) entry below pos fits refl fitting (subst (λ f. Filled columnTable f old mid (n + 1) (body .end) below) (sym to5) fill),
         );
       }

@@ -39,7 +39,7 @@ module _ {level len n : ℕ} {before r1 r2 : Reader} {cut : Offsets′} {old mid
   pub paired : getD mid n blank .len ≡ firstLen keys
   paired =
       let i : n ≡ n + 1 - 1 = omega arith in
-      let s = subst (λ t. Filled columnTable (file r1) old mid (n + 1) value t) (one .is) (k .filled) .stands .0 in
+      let s = subst (λ t. Filled columnTable (file r1) old mid (n + 1) value t) (one .is) (k .filled) .stands .1 in
       ap (λ j. getD mid j blank .len) i ∙ ap (λ (x : model.Column). x .len) s ∙ ap firstLen (sym (one .is))
 
   abbrev valued : Forest model.Column → Forest model.Column → Read Body

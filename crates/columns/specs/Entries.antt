@@ -4,7 +4,7 @@ use mathlib.Core.List.{List, []}
 use lib.Dec.{ltb}
 use Prim.Native.Nat.{ℕ}
 use Rattle.std.specs.Options.{mapped}
-use Rattle.std.specs.declared.option.Option.the-variants.{None}
+use Rattle.std.specs.declared.option.Option.the-variants.{None, Some}
 use Rattle.meaning.specs.Forest.{Forest, none, tree}
 use Rattle.meaning.specs.Model as model
 use Rattle.meaning.specs.Items.{Entry, head, Read, refused, _then_, give, flag, number}
@@ -14,8 +14,8 @@ use Rattle.std.specs.declared.option.Option.{Option}
 use Rattle.items.specs.declared.reader.Span.{Span}
 use Rattle.items.specs.declared.reader.Offsets.{Offsets}
 use Rattle.items.specs.declared.width.Width.the-variants.{Four}
-use Rattle.items.specs.Cuts.{offsetsOf}
-use Rattle.items.specs.Reading.{part}
+use Rattle.items.specs.Cuts.{Fits, offsetsOf}
+use Rattle.items.specs.Reading.{Inside, part}
 use Rattle.items.specs.Tables.{Layout}
 use Rattle.columns.specs.declared.code.Code.the-variants.{Boolean}
 use Rattle.columns.specs.declared.entry.ColumnEntry.{ColumnEntry}
@@ -45,12 +45,30 @@ columnOf bytes e = record {
   body = part bytes (e .body);
 }
 
+-- what is there lies in the file
+abbrev pub MaybeInside : List ℕ → Option Span → Type 0
+MaybeInside bytes None = Unit {0}
+MaybeInside bytes (Some s) = Inside bytes s
+
+-- the parts that an entry names lie in the file
+pub record Fitting (bytes : List ℕ) (e : ColumnEntry) : Type 0 where
+  pub name : Inside bytes (e .name)
+  pub id : MaybeInside bytes (e .«id_text»)
+  pub validity : MaybeInside bytes (e .validity)
+  pub offsets : Fits bytes (e .offsets)
+  pub body : Inside bytes (e .body)
+
 abbrev pub columnTable : Layout ColumnEntry model.Column
-columnTable = record { blank = blank; says = columnOf; end = λ e. e .end }
+columnTable = record { blank = blank; fits = Fitting; says = columnOf; end = λ e. e .end }
 
 -- what is read of a column after its head, with the columns below it
 abbrev pub bodyMeant : List ℕ → Body → Forest model.Column → columns.Body
 bodyMeant bytes b below = columns.body (values (offsetsOf bytes (b .offsets))) (part bytes (b .stored)) below
+
+-- the offsets and the stored bytes of a body lie in the file
+pub record BodyInside (bytes : List ℕ) (b : Body) : Type 0 where
+  pub offsets : Fits bytes (b .offsets)
+  pub stored : Inside bytes (b .stored)
 
 -- a flag, and what follows it if it is 1
 abbrev pub optionally : {X : Type 0} → Entry → Read X → Read (Option X)

@@ -10,7 +10,7 @@ ghost use Rattle.items.specs.Widths.{wide};
 ghost use Rattle.std.specs.Options.{mapped};
 ghost use Rattle.std.specs.Vec.{made};
 ghost use Rattle.columns.specs.Bodies.{storedFrom, variableFrom};
-ghost use Rattle.columns.specs.Entries.{bodyMeant, optionally};
+ghost use Rattle.columns.specs.Entries.{BodyInside, MaybeInside, bodyMeant, optionally};
 ghost use Rattle.columns.specs.declared.entry.Body.{Body as Bod};
 use crate::entry::Body;
 use crate::entry::NO_OFFSETS;
@@ -23,7 +23,8 @@ use items::Width;
 
 // An id text, if a flag says that there is one.
 pub(crate) fn read_id_text(reader: &mut Reader, entry: Entry) -> Result<Option<Span>, BatchFault>
-    ensures { λ r. ⌜ Reads (mapped (part (file (now (reader .entry))))) (optionally (entryOf entry) (items.text (entryOf entry))) (now (reader .entry)) r (now (reader .exit)) ⌝ }
+    ensures reads { λ r. ⌜ Reads (mapped (part (file (now (reader .entry))))) (optionally (entryOf entry) (items.text (entryOf entry))) (now (reader .entry)) r (now (reader .exit)) ⌝ }
+    ensures inside { λ r. ⌜ made r (MaybeInside (file (now (reader .entry)))) ⌝ }
 {
     if !reader.flag(entry)? {
         return Ok(None);
@@ -38,7 +39,8 @@ pub(crate) fn read_validity(
     len: usize,
 ) -> Result<Option<Span>, BatchFault>
     requires { ⌜ len ≤ 65536 ⌝ }
-    ensures { λ r. ⌜ Reads (mapped (part (file (now (reader .entry))))) (optionally (entryOf entry) (items.exactly (entryOf entry) ((len + 7) / 8))) (now (reader .entry)) r (now (reader .exit)) ⌝ }
+    ensures reads { λ r. ⌜ Reads (mapped (part (file (now (reader .entry))))) (optionally (entryOf entry) (items.exactly (entryOf entry) ((len + 7) / 8))) (now (reader .entry)) r (now (reader .exit)) ⌝ }
+    ensures inside { λ r. ⌜ made r (MaybeInside (file (now (reader .entry)))) ⌝ }
 {
     if !reader.flag(entry)? {
         return Ok(None);
@@ -51,6 +53,7 @@ pub(crate) fn read_stored(reader: &mut Reader, n: usize, bytes: usize) -> Result
     requires { ⌜ n ≤ 256 ⌝ }
     ensures reads { λ r. ⌜ Reads (λ (b : Bod). bodyMeant (file (now (reader .entry))) b none) (storedFrom n bytes) (now (reader .entry)) r (now (reader .exit)) ⌝ }
     ensures next { λ r. ⌜ made r (λ (b : Bod). b .end ≡ n + 1) ⌝ }
+    ensures inside { λ r. ⌜ made r (BodyInside (file (now (reader .entry)))) ⌝ }
 {
     let stored = reader.exactly(bytes, Entry::Column(n))?;
     Ok(Body {
@@ -70,6 +73,7 @@ pub(crate) fn read_variable(
     requires { ⌜ n ≤ 256 ⌝ ∗ ⌜ len ≤ 65536 ⌝ }
     ensures reads { λ r. ⌜ Reads (λ (b : Bod). bodyMeant (file (now (reader .entry))) b none) (variableFrom n (wide width) len) (now (reader .entry)) r (now (reader .exit)) ⌝ }
     ensures next { λ r. ⌜ made r (λ (b : Bod). b .end ≡ n + 1) ⌝ }
+    ensures inside { λ r. ⌜ made r (BodyInside (file (now (reader .entry)))) ⌝ }
 {
     let entry = Entry::Column(n);
     let offsets = reader.offsets(width, len + 1, n)?;

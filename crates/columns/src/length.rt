@@ -2,7 +2,7 @@ ghost use Prim.Native.Nat.{ℕ, _+_, _*_, _≤_};
 ghost use mathlib.Core.Path.{_≡_};
 ghost use lib.ListN.{length};
 ghost use Rattle.meaning.specs.Columns as columns;
-ghost use Rattle.items.specs.Cuts.{offsetsOf};
+ghost use Rattle.items.specs.Cuts.{Fits, offsetsOf};
 ghost use Rattle.items.specs.Reading.{Reads, file};
 ghost use Rattle.items.specs.Widths.{wide};
 ghost use Rattle.std.specs.Vec.{made};
@@ -43,7 +43,7 @@ pub(crate) fn read_length(
     cut: Offsets,
     owner: usize,
 ) -> Result<usize, BatchFault>
-    requires { ⌜ cut .start + wide (cut .width) * cut .count ≤ length (file (now reader)) ⌝ }
+    requires { ⌜ Fits (file (now reader)) cut ⌝ }
     ensures reads { λ r. ⌜ Reads (λ (k : ℕ). k) (columns.lengthOf n (needOf need) (offsetsOf (file (now (reader .entry))) cut) owner) (now (reader .entry)) r (now (reader .exit)) ⌝ }
     ensures small { λ r. ⌜ made r (λ (k : ℕ). k ≤ 65536) ⌝ }
 {

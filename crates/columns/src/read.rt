@@ -3,13 +3,14 @@ ghost use lib.ListN.{length};
 ghost use Rattle.meaning.specs.Columns as columns;
 ghost use Rattle.meaning.specs.Forest.{Forest};
 ghost use Rattle.meaning.specs.Model as model;
-ghost use Rattle.items.specs.Cuts.{offsetsOf};
+ghost use Rattle.items.specs.Cuts.{Fits, offsetsOf};
 ghost use Rattle.items.specs.Reading.{file};
 ghost use Rattle.items.specs.Tables.{Fills};
 ghost use Rattle.items.specs.Widths.{wide};
+ghost use Rattle.std.specs.Vec.{made};
 ghost use Rattle.columns.specs.Bodies.{listFrom};
 ghost use Rattle.columns.specs.Codes.{codeMeant};
-ghost use Rattle.columns.specs.Entries.{bodyMeant, columnTable, columnsIn, oneColumn};
+ghost use Rattle.columns.specs.Entries.{BodyInside, bodyMeant, columnTable, columnsIn, oneColumn};
 ghost use Rattle.columns.specs.Needs.{needOf};
 ghost use Rattle.columns.specs.declared.entry.Body.{Body as Bod};
 use crate::body::read_id_text;
@@ -67,7 +68,7 @@ fn read_columns(
     owner: usize,
     n: usize,
 ) -> Result<usize, BatchFault>
-    requires { ⌜ 256 ≤ length (now table) ⌝ ∗ ⌜ 1 ≤ n ⌝ ∗ ⌜ cut .start + wide (cut .width) * cut .count ≤ length (file (now reader)) ⌝ }
+    requires { ⌜ 256 ≤ length (now table) ⌝ ∗ ⌜ 1 ≤ n ⌝ ∗ ⌜ Fits (file (now reader)) cut ⌝ }
     ensures { λ r. ⌜ Fills columnTable (λ (m : ℕ). m) (λ _ (cs : Forest model.Column). cs) (columns.columns level count (needOf need) (offsetsOf (file (now (reader .entry))) cut) owner n) n (now (reader .entry)) (now (table .entry)) r (now (reader .exit)) (now (table .exit)) ⌝ }
 {
     let mut next = n;
@@ -90,7 +91,7 @@ fn read_column(
     owner: usize,
     n: usize,
 ) -> Result<usize, BatchFault>
-    requires { ⌜ 256 ≤ length (now table) ⌝ ∗ ⌜ 1 ≤ n ⌝ ∗ ⌜ n ≤ 256 ⌝ ∗ ⌜ cut .start + wide (cut .width) * cut .count ≤ length (file (now reader)) ⌝ }
+    requires { ⌜ 256 ≤ length (now table) ⌝ ∗ ⌜ 1 ≤ n ⌝ ∗ ⌜ n ≤ 256 ⌝ ∗ ⌜ Fits (file (now reader)) cut ⌝ }
     ensures { λ r. ⌜ Fills columnTable (λ (m : ℕ). m) (λ _ (cs : Forest model.Column). cs) (oneColumn (columns.columns level) (needOf need) (offsetsOf (file (now (reader .entry))) cut) owner n) n (now (reader .entry)) (now (table .entry)) r (now (reader .exit)) (now (table .exit)) ⌝ }
 {
     let entry = Entry::Column(n);
@@ -123,7 +124,8 @@ fn read_body(
     n: usize,
 ) -> Result<Body, BatchFault>
     requires { ⌜ 256 ≤ length (now table) ⌝ ∗ ⌜ 1 ≤ n ⌝ ∗ ⌜ n ≤ 256 ⌝ ∗ ⌜ len ≤ 65536 ⌝ }
-    ensures { λ r. ⌜ Fills columnTable (λ (b : Bod). b .end) (λ (b : Bod) (cs : Forest model.Column). bodyMeant (file (now (reader .entry))) b cs) (columns.bodyOf (columns.columns level) n len (codeMeant code)) (n + 1) (now (reader .entry)) (now (table .entry)) r (now (reader .exit)) (now (table .exit)) ⌝ }
+    ensures fills { λ r. ⌜ Fills columnTable (λ (b : Bod). b .end) (λ (b : Bod) (cs : Forest model.Column). bodyMeant (file (now (reader .entry))) b cs) (columns.bodyOf (columns.columns level) n len (codeMeant code)) (n + 1) (now (reader .entry)) (now (table .entry)) r (now (reader .exit)) (now (table .exit)) ⌝ }
+    ensures inside { λ r. ⌜ made r (BodyInside (file (now (reader .entry)))) ⌝ }
 {
     match code {
         Code::Boolean => read_stored(reader, n, (len + 7) / 8),
@@ -187,7 +189,8 @@ fn read_list(
     n: usize,
 ) -> Result<Body, BatchFault>
     requires { ⌜ 256 ≤ length (now table) ⌝ ∗ ⌜ 1 ≤ n ⌝ ∗ ⌜ n ≤ 256 ⌝ ∗ ⌜ len ≤ 65536 ⌝ }
-    ensures { λ r. ⌜ Fills columnTable (λ (b : Bod). b .end) (λ (b : Bod) (cs : Forest model.Column). bodyMeant (file (now (reader .entry))) b cs) (listFrom (columns.columns level) n (wide width) len) (n + 1) (now (reader .entry)) (now (table .entry)) r (now (reader .exit)) (now (table .exit)) ⌝ }
+    ensures fills { λ r. ⌜ Fills columnTable (λ (b : Bod). b .end) (λ (b : Bod) (cs : Forest model.Column). bodyMeant (file (now (reader .entry))) b cs) (listFrom (columns.columns level) n (wide width) len) (n + 1) (now (reader .entry)) (now (table .entry)) r (now (reader .exit)) (now (table .exit)) ⌝ }
+    ensures inside { λ r. ⌜ made r (BodyInside (file (now (reader .entry)))) ⌝ }
 {
     let offsets = reader.offsets(width, len + 1, n)?;
     let end = read_columns(reader, table, level, 1, Need::Free, offsets, n, n + 1)?;
@@ -207,7 +210,8 @@ fn read_map(
     n: usize,
 ) -> Result<Body, BatchFault>
     requires { ⌜ 256 ≤ length (now table) ⌝ ∗ ⌜ 1 ≤ n ⌝ ∗ ⌜ n ≤ 256 ⌝ ∗ ⌜ len ≤ 65536 ⌝ }
-    ensures { λ r. ⌜ Fills columnTable (λ (b : Bod). b .end) (λ (b : Bod) (cs : Forest model.Column). bodyMeant (file (now (reader .entry))) b cs) (columns.bodyOf (columns.columns level) n len model.maps) (n + 1) (now (reader .entry)) (now (table .entry)) r (now (reader .exit)) (now (table .exit)) ⌝ }
+    ensures fills { λ r. ⌜ Fills columnTable (λ (b : Bod). b .end) (λ (b : Bod) (cs : Forest model.Column). bodyMeant (file (now (reader .entry))) b cs) (columns.bodyOf (columns.columns level) n len model.maps) (n + 1) (now (reader .entry)) (now (table .entry)) r (now (reader .exit)) (now (table .exit)) ⌝ }
+    ensures inside { λ r. ⌜ made r (BodyInside (file (now (reader .entry)))) ⌝ }
 {
     let offsets = reader.offsets(Width::Four, len + 1, n)?;
     let value = read_columns(reader, table, level, 1, Need::Free, offsets, n, n + 1)?;

@@ -49,17 +49,18 @@ module _ {E H : Type 0} (l : Layout E H) where
   stands-kept bytes old new n none p kept s = tt
   stands-kept bytes old new n (tree x below after) p kept s =
       let here : getD new (n - 1) (l .blank) ≡ getD old (n - 1) (l .blank) = kept (n - 1) (omega arith) (omega arith) in (
-        ap (λ e. l .says bytes e) here ∙ s .0,
-        ap (λ (e : E). l .end e) here ∙ s .1,
-        stands-kept bytes old new (n + 1) below (omega arith) (λ k h l. kept k (omega arith) (omega arith)) (s .2),
-        stands-kept bytes old new (n + 1 + size below) after (omega arith) (λ k h l. kept k (omega arith) (omega arith)) (s .3),
+        subst (λ e. l .fits bytes e) (sym here) (s .0),
+        ap (λ e. l .says bytes e) here ∙ s .1,
+        ap (λ (e : E). l .end e) here ∙ s .2,
+        stands-kept bytes old new (n + 1) below (omega arith) (λ k h l. kept k (omega arith) (omega arith)) (s .3),
+        stands-kept bytes old new (n + 1 + size below) after (omega arith) (λ k h l. kept k (omega arith) (omega arith)) (s .4),
       )
 
   pub stands-beside :
       (bytes : List ℕ) (t : List E) (n m : ℕ) (f g : Forest H) → m ≡ n + size f → Stands l bytes t n f → Stands l bytes t m g → Stands l bytes t n (beside f g)
   stands-beside bytes t n m none g e s r = let z : m ≡ n = omega arith in subst (λ k. Stands l bytes t k g) z r
   stands-beside bytes t n m (tree x below after) g e s r =
-      (s .0, s .1, s .2, stands-beside bytes t (n + 1 + size below) m after g (omega arith) (s .3) r)
+      (s .0, s .1, s .2, s .3, stands-beside bytes t (n + 1 + size below) m after g (omega arith) (s .4) r)
 
   -- nothing was written
   pub filled-none : (bytes : List ℕ) (t : List E) (n : ℕ) → Filled l bytes t t n n none
@@ -81,9 +82,9 @@ module _ {E H : Type 0} (l : Layout E H) where
 
   -- a head over the forest below it, which was written first
   pub filled-tree :
-      (bytes : List ℕ) (old mid : List E) (n m : ℕ) (e : E) (below : Forest H) → 1 ≤ n → n ≤ length mid → l .end e ≡ m → Filled l bytes old mid (n + 1) m below
+      (bytes : List ℕ) (old mid : List E) (n m : ℕ) (e : E) (below : Forest H) → 1 ≤ n → n ≤ length mid → l .end e ≡ m → l .fits bytes e → Filled l bytes old mid (n + 1) m below
       → Filled l bytes old (set mid (n - 1) e) n m (tree (l .says bytes e) below none)
-  filled-tree bytes old mid n m e below pos fits ends a =
+  filled-tree bytes old mid n m e below pos fits ends inside a =
       let past = a .next in
       let lt : n - 1 < length mid = omega arith in
       let here : getD (set mid (n - 1) e) (n - 1) (l .blank) ≡ e = rw getD-set-same in
@@ -91,6 +92,7 @@ module _ {E H : Type 0} (l : Layout E H) where
       record {
         next = omega arith;
         stands = (
+          subst (λ x. l .fits bytes x) (sym here) inside,
           ap (λ x. l .says bytes x) here,
           ap (λ (x : E). l .end x) here ∙ ends ∙ a .next,
           stands-kept bytes mid (set mid (n - 1) e) (n + 1) below (omega arith) (λ k h l. other k (omega arith)) (a .stands),

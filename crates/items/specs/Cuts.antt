@@ -26,8 +26,12 @@ placed w bytes at (suc k) = (little (take w (drop at bytes)), at) ∷ placed w b
 abbrev pub offsetsOf : List ℕ → Offsets′ → Offsets
 offsetsOf bytes o = placed (wide (o .width)) bytes (o .start) (o .count)
 
+-- offsets lie in the file
+abbrev pub Fits : List ℕ → Offsets′ → Type 0
+Fits bytes o = o .start + wide (o .width) * o .count ≤ length bytes
+
 -- offsets of this width and number, all of them in the file
 pub record Standing (bytes : List ℕ) (width : Width) (count : ℕ) (o : Offsets′) : Type 0 where
   pub sized : o .width ≡ width
   pub many : o .count ≡ count
-  pub fits : o .start + wide (o .width) * o .count ≤ length bytes
+  pub fits : Fits bytes o

@@ -1,9 +1,9 @@
 -- A reader of the code is a rest of the definitions.
 use mathlib.Core.List.{List}
 use mathlib.Core.Path.{_≡_}
-use Prim.Native.Nat.{ℕ}
+use Prim.Native.Nat.{ℕ, _+_, _≤_}
 use lib.IntN.{ℤ}
-use lib.ListN.{take, drop}
+use lib.ListN.{length, take, drop}
 use denote.Ref.{now}
 use Rattle.std.specs.declared.result.Result.{Result}
 use Rattle.std.specs.declared.result.Result.the-variants.{Ok, Err}
@@ -24,6 +24,10 @@ rest r = record { bytes = drop (r .at) (file r); at = r .at }
 -- the bytes that a span names
 abbrev pub part : List ℕ → Span → List ℕ
 part bytes s = take (s .len) (drop (s .start) bytes)
+
+-- a span lies in the file
+abbrev pub Inside : List ℕ → Span → Type 0
+Inside bytes s = s .start + s .len ≤ length bytes
 
 -- a result of the code as one of the definitions: what its value means, and the reader afterwards
 abbrev pub said : {X Y : Type 0} → (X → Y) → Result X BatchFault → Reader → Result (Y × Rest) items.BatchFault

@@ -13,9 +13,10 @@ use Rattle.fault.specs.Faults.{batchFaultOf}
 use Rattle.items.specs.declared.reader.Reader.{Reader}
 use Rattle.items.specs.Reading.{file, rest}
 
--- a kind of table: its blank entry, what an entry says of a file, and the number after its subtree
-pub record Layout (E H : Type 0) : Type 0 where
+-- a kind of table: its blank entry, that an entry names parts of a file that are there, what it says of the file, and the number after its subtree
+pub record Layout (E H : Type 0) : Type 1 where
   pub blank : E
+  pub fits : List ℕ → E → Type 0
   pub says : List ℕ → E → H
   pub end : E → ℕ
 
@@ -28,7 +29,7 @@ module _ {E H : Type 0} (l : Layout E H) where
   abbrev pub Stands : List ℕ → List E → ℕ → Forest H → Type 0
   Stands bytes table n none = Unit {0}
   Stands bytes table n (tree h below after) =
-      (l .says bytes (entry table n) ≡ h) × (l .end (entry table n) ≡ n + 1 + size below) × Stands bytes table (n + 1) below × Stands bytes table (n + 1 + size below) after
+      l .fits bytes (entry table n) × (l .says bytes (entry table n) ≡ h) × (l .end (entry table n) ≡ n + 1 + size below) × Stands bytes table (n + 1) below × Stands bytes table (n + 1 + size below) after
 
   -- a forest was written from number n on up to m, and nothing else was
   pub record Filled (bytes : List ℕ) (old new : List E) (n m : ℕ) (trees : Forest H) : Type 0 where

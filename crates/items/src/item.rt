@@ -3,7 +3,8 @@ ghost use mathlib.Core.Path.{_≡_};
 ghost use mathlib.Core.Bool.{Bool, true};
 ghost use Rattle.meaning.specs.Items as items;
 ghost use Rattle.fault.specs.Faults.{entryOf};
-ghost use Rattle.items.specs.Reading.{Reads, idFrom, part, file, rest};
+ghost use Rattle.items.specs.Reading.{Inside, Reads, file, idFrom, part, rest};
+ghost use Rattle.std.specs.Vec.{made};
 ghost use lib.IntN.{ℤ};
 use crate::numeral::Number;
 use crate::numeral::number_at;
@@ -25,7 +26,8 @@ impl<'a> Reader<'a> {
 impl Reader<'_> {
     // The next `n` bytes as one item.
     pub fn exactly(&mut self, n: usize, entry: Entry) -> Result<Span, BatchFault>
-        ensures { λ r. ⌜ Reads (part (file (now (self .entry)))) (items.exactly (entryOf entry) n) (now (self .entry)) r (now (self .exit)) ⌝ }
+        ensures reads { λ r. ⌜ Reads (part (file (now (self .entry)))) (items.exactly (entryOf entry) n) (now (self .entry)) r (now (self .exit)) ⌝ }
+        ensures inside { λ r. ⌜ made r (Inside (file (now (self .entry)))) ⌝ }
     {
         let start = self.at;
         if self.bytes.len() - start < n {
@@ -88,7 +90,8 @@ impl Reader<'_> {
 
     // A name or an id text: its number and its bytes are one item, so that a fault of either begins at the number.
     pub fn text(&mut self, entry: Entry) -> Result<Span, BatchFault>
-        ensures { λ r. ⌜ Reads (part (file (now (self .entry)))) (items.text (entryOf entry)) (now (self .entry)) r (now (self .exit)) ⌝ }
+        ensures reads { λ r. ⌜ Reads (part (file (now (self .entry)))) (items.text (entryOf entry)) (now (self .entry)) r (now (self .exit)) ⌝ }
+        ensures inside { λ r. ⌜ made r (Inside (file (now (self .entry)))) ⌝ }
     {
         let start = self.at;
         let len = self.number(entry)? as usize;

@@ -22,7 +22,7 @@ use Rattle.schema.specs.declared.types.FieldEntry.{FieldEntry}
 use Rattle.schema.specs.declared.types.Kind.{Kind as Kind′}
 use Rattle.fault.specs.Faults.{batchFaultOf}
 use Rattle.schema.specs.Forms.{shapeOf, formed, decimal?, Formed}
-use Rattle.items.specs.Reading.{file, rest, part, idFrom}
+use Rattle.items.specs.Reading.{Inside, file, rest, part, idFrom}
 use Rattle.schema.specs.Fields.{fieldOf, fieldTable, oneField}
 use Rattle.items.specs.Tables.{Filled, Fills}
 use Rattle.items.proofs.Filling.{filled-tree}
@@ -83,11 +83,11 @@ by-form kids key n c form k r r1 f is six flat e =
 pub field-read :
     (level : ℕ) (key : Bool) (n : ℕ) (before r1 r2 r3 after : Reader) (id id′ : ℤ) (required : Bool) (name : Span) (kind : Kind′) (end : ℕ) (old mid : List FieldEntry) (below : Forest model.Field)
     → id′ ≡ id → file r1 ≡ file before → file r2 ≡ file r1 → file r3 ≡ file r2 → file after ≡ file r3 → Ok (id, rest r1) ≡ idFrom (field n) (rest before)
-    → Ok (required, rest r2) ≡ flag (field n) (rest r1) → Ok (part (file r2) name, rest r3) ≡ text (field n) (rest r2)
+    → Ok (required, rest r2) ≡ flag (field n) (rest r1) → Ok (part (file r2) name, rest r3) ≡ text (field n) (rest r2) → Inside (file r2) name
     → Ok ((shapeOf kind, below), rest after) ≡ typed (fields level) key n (rest r3) → Filled fieldTable (file r3) old mid (n + 1) end below → 1 ≤ n → n ≤ length mid
     → Fills fieldTable (λ (m : ℕ). m) (λ _ (fs : Forest model.Field). fs) (oneField (fields level) key n) n before old (Ok end) after
     (set mid (n - 1) (record { id = id′; required = required; name = name; kind = kind; end = end }))
-field-read level key n before r1 r2 r3 after id id′ required name kind end old mid below z s1 s2 s3 s4 e1 e2 e3 e4 fill pos fits =
+field-read level key n before r1 r2 r3 after id id′ required name kind end old mid below z s1 s2 s3 s4 e1 e2 e3 inside e4 fill pos fits =
     let entry : FieldEntry = record { id = id′; required = required; name = name; kind = kind; end = end } in
     let head : fieldOf (file before) entry ≡ record { id = id; required = required; name = part (file r2) name; shape = shapeOf kind } =
     ap (λ i. record { id = i; required = required; name = part (file before) name; shape = shapeOf kind }) z
@@ -99,6 +99,6 @@ field-read level key n before r1 r2 r3 after id id′ required name kind end old
         tree (fieldOf (file before) entry) below none,
         ap (λ h. Ok (tree h below none, rest after)) head ∙ ap (headed id required (part (file r2) name)) e4
             ∙ field-from (fields level) key n id required (part (file r2) name) (rest before) (rest r1) (rest r2) (rest r3) e1 e2 e3,
-        filled-tree fieldTable (file before) old mid n end entry below pos fits refl (subst (λ b. Filled fieldTable b old mid (n + 1) end below) (s3 ∙ s2 ∙ s1) fill),
+        filled-tree fieldTable (file before) old mid n end entry below pos fits refl (subst (λ b. Inside b name) (s2 ∙ s1) inside) (subst (λ b. Filled fieldTable b old mid (n + 1) end below) (s3 ∙ s2 ∙ s1) fill),
       );
     }

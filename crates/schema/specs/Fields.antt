@@ -8,7 +8,7 @@ use Rattle.meaning.specs.Forest.{Forest, none, tree}
 use Rattle.meaning.specs.Model as model
 use Rattle.meaning.specs.Items.{head, Read, refused, _then_, give, number}
 use Rattle.meaning.specs.Schema.{Fields, fielded, fields}
-use Rattle.items.specs.Reading.{part}
+use Rattle.items.specs.Reading.{Inside, part}
 use Rattle.items.specs.Tables.{Layout}
 use Rattle.schema.specs.declared.types.FieldEntry.{FieldEntry}
 use Rattle.schema.specs.declared.types.Kind.the-variants as kind
@@ -24,7 +24,7 @@ abbrev pub fieldOf : List ℕ → FieldEntry → model.Field
 fieldOf bytes f = record { id = f .id; required = f .required; name = part bytes (f .name); shape = shapeOf (f .kind) }
 
 abbrev pub fieldTable : Layout FieldEntry model.Field
-fieldTable = record { blank = blank; says = fieldOf; end = λ e. e .end }
+fieldTable = record { blank = blank; fits = λ bytes e. Inside bytes (e .name); says = fieldOf; end = λ e. e .end }
 
 -- one field, as a forest of its own
 abbrev pub oneField : Fields → Bool → ℕ → Read (Forest model.Field)

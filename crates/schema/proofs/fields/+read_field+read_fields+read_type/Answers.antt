@@ -25,7 +25,7 @@ read-field-returns-in-Break-kind t c =
     let p = err-from-errBy (c .from-residual-in-Break-kind .result) (c .from-residual-in-Break-kind .ensures .1) in
     let i = c .in-Continue-id .ensures tt in
     let f = c .in-Continue-required .ensures tt in
-    let n = c .in-Continue-name .ensures tt in
+    let n = c .in-Continue-name .ensures tt .reads in
     let b = c .in-Break-kind .ensures tt in
     refuses fieldTable (p .0) (c .in-Break-kind .field-0 .0) (b .same ∙ n .same ∙ f .same ∙ i .same) (p .1) (p .2)
     (ap (headed (c .in-Continue-id .id) (c .in-Continue-required .required) (part (file (c .flag .last .self)) (c .in-Continue-name .name))) (b .does)
@@ -37,11 +37,11 @@ read-field-returns t c =
     let z : toZ w32 (ofZ w32 (c .in-Continue-id .id)) ≡ c .in-Continue-id .id = search needs in
     let i = c .in-Continue-id .ensures tt in
     let f = c .in-Continue-required .ensures tt in
-    let n = c .in-Continue-name .ensures tt in
+    let n = c .in-Continue-name .ensures tt .reads in
     let d = c .in-Continue-kind .ensures tt in
     field-read (c .args .level) (c .args .key) (c .args .n) (c .args .reader .now) (c .id .last .self) (c .flag .last .self) (c .text .last .self) (c .read-type .last .reader)
     (c .in-Continue-id .id) (toZ w32 (ofZ w32 (c .in-Continue-id .id))) (c .in-Continue-required .required) (c .in-Continue-name .name) (c .in-Continue-kind .kind) (c .in-Continue-kind .end)
-    (c .args .table .now) (c .read-type .last .table) (d .does .0) z (i .same) (f .same) (n .same) (d .same) (i .does) (f .does) (n .does) (d .does .1) (d .does .2) (omega arith) (search needs)
+    (c .args .table .now) (c .read-type .last .table) (d .does .0) z (i .same) (f .same) (n .same) (d .same) (i .does) (f .does) (n .does) (c .in-Continue-name .ensures tt .inside) (d .does .1) (d .does .2) (omega arith) (search needs)
 
 pub read-fields-loop-holds : need.read-fields-loop-holds
 read-fields-loop-holds t c = start fieldTable fieldFamily (c .args .reader .now) (c .args .table .now) (c .args .level) (c .args .count) (c .args .key) (c .args .n) (c .pre .1) (c .pre .0)

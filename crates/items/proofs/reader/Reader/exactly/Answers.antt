@@ -8,10 +8,13 @@ use Rattle.items.proofs.reader.Reader.exactly.Needs as need
 pub returns-then-self-start : need.returns-then-self-start
 returns-then-self-start c =
     record {
-      same = refl;
-      does = ap Err (c .new .ensures) ∙ exactly-cut (c .args .self .now .bytes .now) (c .args .self .now .at) (c .args .n) (entryOf (c .args .entry)) (omega arith);
+      reads = record { same = refl; does = ap Err (c .new .ensures) ∙ exactly-cut (c .args .self .now .bytes .now) (c .args .self .now .at) (c .args .n) (entryOf (c .args .entry)) (omega arith) };
+      inside = tt;
     }
 
 pub returns : need.returns
 returns c =
-    record { same = refl; does = exactly-there (c .args .self .now .bytes .now) (c .args .self .now .at) (c .args .n) (entryOf (c .args .entry)) (omega arith) }
+    record {
+      reads = record { same = refl; does = exactly-there (c .args .self .now .bytes .now) (c .args .self .now .at) (c .args .n) (entryOf (c .args .entry)) (omega arith) };
+      inside = omega arith;
+    }

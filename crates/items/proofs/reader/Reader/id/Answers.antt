@@ -10,7 +10,7 @@ pub returns : need.returns
 returns c =
     let before = c .args .self .now in
     let after = c .exactly .last .self in
-    let read = c .in-Continue-exactly .ensures tt in
+    let read = c .in-Continue-exactly .ensures tt .reads in
     record {
       same = read .same;
       does =
