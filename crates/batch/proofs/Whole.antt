@@ -24,6 +24,7 @@ use Rattle.fault.specs.declared.faults.BatchFault.{BatchFault}
 use Rattle.fault.specs.Faults.{batchFaultOf}
 use Rattle.schema.specs.declared.types.FieldEntry.{FieldEntry}
 use Rattle.columns.specs.declared.entry.ColumnEntry.{ColumnEntry}
+use Rattle.batch.specs.declared.load.Sizes.{Sizes}
 use Rattle.batch.specs.Loaded.{readIn, Loaded}
 
 -- what is left of the file once the named parts are read
@@ -72,6 +73,6 @@ pub not-at-end : (bytes : List ℕ) (at : ℕ) (m : Model) → at < length bytes
 not-at-end bytes at m h = let l = length-drop at bytes in let t : eqb (length (drop at bytes)) 0 ≡ false = grind (arith, tells) in sym (if-false _ _ t)
 
 -- a refusal, as the exit of a `?` gives it
-pub refuses-in : {nf nc : ℕ} {bytes : List ℕ} {res : Result ℕ BatchFault} {fs : List FieldEntry} {cs : List ColumnEntry} (x e : BatchFault)
+pub refuses-in : {nf nc : ℕ} {bytes : List ℕ} {res : Result Sizes BatchFault} {fs : List FieldEntry} {cs : List ColumnEntry} (x e : BatchFault)
     → res ≡ Err x → x ≡ e → Err (batchFaultOf e) ≡ readIn nf nc bytes → Loaded nf nc bytes res fs cs
 refuses-in {nf = nf} {nc = nc} {bytes = bytes} {fs = fs} {cs = cs} x e q w does = subst (λ r. Loaded nf nc bytes r fs cs) (sym (q ∙ ap Err w)) (record { does = does })

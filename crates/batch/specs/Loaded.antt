@@ -6,13 +6,14 @@ use Prim.Native.Nat.{ℕ}
 use lib.Dec.{ltb}
 use Rattle.std.specs.declared.result.Result.{Result}
 use Rattle.std.specs.declared.result.Result.the-variants.{Ok, Err}
-use Rattle.meaning.specs.Forest.{none}
+use Rattle.meaning.specs.Forest.{none, size}
 use Rattle.meaning.specs.Model.{Model}
 use Rattle.meaning.specs.Items as items
 use Rattle.meaning.specs.Items.{head, refused}
 use Rattle.meaning.specs.File.{decode}
 use Rattle.fault.specs.declared.faults.BatchFault.{BatchFault}
 use Rattle.fault.specs.Faults.{batchFaultOf}
+use Rattle.batch.specs.declared.load.Sizes.{Sizes}
 use Rattle.items.specs.Tables.{Stands}
 use Rattle.schema.specs.declared.types.FieldEntry.{FieldEntry}
 use Rattle.schema.specs.Fields.{fieldTable}
@@ -40,10 +41,16 @@ pub record Standing (bytes : List ℕ) (m : Model) (fields : List FieldEntry) (c
   pub schema : Stands fieldTable bytes fields 1 (m .fields)
   pub batch : Stands columnTable bytes columns 1 (m .columns)
 
--- the number of rows of a batch that the file means, and that stands in the tables; or the fault
-abbrev pub Answers : Result Model items.BatchFault → List ℕ → Result ℕ BatchFault → List FieldEntry → List ColumnEntry → Type 0
-Answers meant bytes (Ok rows) fields columns = (m : Model) × (Ok m ≡ meant) × (m .rows ≡ rows) × Standing bytes m fields columns
+-- the numbers of rows, fields and columns
+pub record Counted (m : Model) (s : Sizes) : Type 0 where
+  pub rows : s .rows ≡ m .rows
+  pub fields : s .fields ≡ size (m .fields)
+  pub columns : s .columns ≡ size (m .columns)
+
+-- the sizes of a batch that the file means, and that stands in the tables; or the fault
+abbrev pub Answers : Result Model items.BatchFault → List ℕ → Result Sizes BatchFault → List FieldEntry → List ColumnEntry → Type 0
+Answers meant bytes (Ok sizes) fields columns = (m : Model) × (Ok m ≡ meant) × Counted m sizes × Standing bytes m fields columns
 Answers meant bytes (Err e) fields columns = Err (batchFaultOf e) ≡ meant
 
-pub record Loaded (nf nc : ℕ) (bytes : List ℕ) (result : Result ℕ BatchFault) (fields : List FieldEntry) (columns : List ColumnEntry) : Type 0 where
+pub record Loaded (nf nc : ℕ) (bytes : List ℕ) (result : Result Sizes BatchFault) (fields : List FieldEntry) (columns : List ColumnEntry) : Type 0 where
   pub does : Answers (readIn nf nc bytes) bytes result fields columns

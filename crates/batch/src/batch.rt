@@ -1,10 +1,13 @@
+ghost use Prim.Native.Nat.{_≤_};
 ghost use denote.Ref.{now};
 ghost use mathlib.Core.Bool.{true};
 ghost use mathlib.Core.Path.{_≡_};
 ghost use Rattle.meaning.specs.File.{decode};
-ghost use Rattle.std.specs.Of.Vec.{vec-items};
+ghost use Rattle.meaning.specs.Forest.{size};
+ghost use Rattle.std.specs.Of.Vec.{vec-items, vec-len};
 ghost use Rattle.std.specs.Results.{isOk};
 ghost use Rattle.batch.specs.Loaded.{Standing, decoded};
+use crate::load::Sizes;
 use crate::tables::Tables;
 use fault::BatchFault;
 
@@ -12,10 +15,11 @@ use fault::BatchFault;
 #[derive(Drop)]
 pub struct Batch<'a> {
     pub(crate) bytes: &'a [u8],
-    pub(crate) rows: usize,
+    pub(crate) sizes: Sizes,
     pub(crate) tables: Tables,
     ghost accepted: { isOk (decode (now bytes)) ≡ true },
-    ghost counted: { rows ≡ decoded (now bytes) .rows },
+    ghost counted: { (sizes .rows ≡ decoded (now bytes) .rows) × (sizes .fields ≡ size (decoded (now bytes) .fields)) × (sizes .columns ≡ size (decoded (now bytes) .columns)) },
+    ghost room: { (sizes .fields ≤ vec-len (tables .fields)) × (sizes .columns ≤ vec-len (tables .columns)) },
     ghost standing: { ∥ Standing (now bytes) (decoded (now bytes)) (vec-items (tables .fields)) (vec-items (tables .columns)) ∥₁ },
 }
 

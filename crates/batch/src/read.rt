@@ -1,9 +1,8 @@
 ghost use mathlib.Core.Path.{_≡_};
-ghost use lib.ListN.{length};
-ghost use Rattle.std.specs.Of.Vec.{vec-len};
-ghost use Rattle.batch.specs.Blank.{Blank};
 ghost use Rattle.batch.specs.Batches.{Emptied, Lawful, Same, model, said};
+ghost use Rattle.batch.specs.Blank.{Blank};
 ghost use Rattle.batch.specs.Loaded.{readIn};
+ghost use Rattle.std.specs.Of.Vec.{vec-len};
 use crate::batch::Batch;
 use crate::batch::Unread;
 use crate::load::load;
@@ -23,9 +22,9 @@ impl<'a> Batch<'a> {
             tables.fields.as_mut_slice(),
             tables.columns.as_mut_slice(),
         ) {
-            Ok(rows) => Ok(Batch {
+            Ok(sizes) => Ok(Batch {
                 bytes,
-                rows,
+                sizes,
                 tables,
             }),
             Err(fault) => {
@@ -41,18 +40,11 @@ impl<'a> Batch<'a> {
     {
         let Batch {
             bytes: _,
-            rows: _,
+            sizes: _,
             tables,
         } = self;
         let mut tables = tables;
         tables.clear();
         tables
-    }
-
-    // The number of rows.
-    pub fn rows(&self) -> usize
-        ensures { λ r. ⌜ r ≡ model (now (self .entry)) .rows ⌝ }
-    {
-        self.rows
     }
 }

@@ -6,3 +6,4 @@ pub mod Placing
 pub mod Seeking
 pub mod Filling
 pub mod Siblings
+pub mod Finding

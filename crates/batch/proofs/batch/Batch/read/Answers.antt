@@ -4,22 +4,16 @@ use native.Mathlib.Omega.{arith}
 use lib.ListN.{length}
 use Rattle.std.specs.declared.result.Result.the-variants.{Ok, Err}
 use Rattle.batch.specs.Loaded.{readIn}
-use Rattle.batch.proofs.Accepted.{is-accepted, is-counted, is-standing, is-read, written, all-bytes, keeps-rules, none-kept}
+use Rattle.batch.proofs.Accepted.{is-accepted, is-counted, is-roomy, is-standing, is-read, written, all-bytes, keeps-rules, none-kept}
 use Rattle.batch.proofs.batch.Batch.read.Needs as need
 
 pub ghost-result : need.ghost-result
 ghost-result c =
-    let l = c .in-Ok .ensures tt in (
-      is-accepted l,
-      (
-        is-counted l,
-        (
-          ∣ is-standing l _ _ (written (c .args .tables .fields) (c .load .last .fields) (c .as-mut-slice .result .now) (c .load .kept .fields) (c .as-mut-slice .ensures .len))
-              (written (c .args .tables .columns) (c .load .last .columns) (c .as-mut-slice-2 .result .now) (c .load .kept .columns) (c .as-mut-slice-2 .ensures .len)) ∣₁,
-          tt,
-        ),
-      ),
-    )
+    let l = c .in-Ok .ensures tt in
+    let fs = written (c .args .tables .fields) (c .load .last .fields) (c .as-mut-slice .result .now) (c .load .kept .fields) (c .as-mut-slice .ensures .len) in
+    let cs = written (c .args .tables .columns) (c .load .last .columns) (c .as-mut-slice-2 .result .now) (c .load .kept .columns) (c .as-mut-slice-2 .ensures .len) in
+    let b = all-bytes (c .args .bytes .now) (λ i. omega (arith, c .typed .bytes i)) in
+    (is-accepted l, (is-counted l, (is-roomy b l _ _ (c .as-mut-slice .ensures .len) (c .as-mut-slice-2 .ensures .len), (∣ is-standing l _ _ fs cs ∣₁, tt))))
 
 pub returns-in-Ok : need.returns-in-Ok
 returns-in-Ok c =
