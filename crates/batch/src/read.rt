@@ -43,8 +43,8 @@ impl<'a> Batch<'a> {
             sizes: _,
             tables,
         } = self;
-        let mut tables = tables;
-        tables.clear();
-        tables
+        let mut emptied = tables;
+        emptied.clear();
+        emptied
     }
 }

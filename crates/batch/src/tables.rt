@@ -34,7 +34,7 @@ impl Tables {
     }
 
     // Makes every entry blank.
-    pub fn clear(&mut self)
+    pub(crate) fn clear(&mut self)
         ensures { λ _. ⌜ Blank (vec-len (now (self .entry) .fields)) (vec-len (now (self .entry) .columns)) (now (self .exit)) ⌝ }
     {
         fill(self.fields.as_mut_slice(), FieldEntry::BLANK);

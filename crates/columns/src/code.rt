@@ -61,7 +61,7 @@ fn code_of(code: u8, detail: u32) -> Code
 }
 
 // The code of column `n`, and the width or the size that it asks for, which may not be 0.
-pub fn read_code(reader: &mut Reader, n: usize) -> Result<Code, BatchFault>
+pub(crate) fn read_code(reader: &mut Reader, n: usize) -> Result<Code, BatchFault>
     ensures { λ r. ⌜ Reads codeMeant (columns.codeOf n) (now (reader .entry)) r (now (reader .exit)) ⌝ }
 {
     let entry = Entry::Column(n);

@@ -15,7 +15,7 @@ use items::Reader;
 
 // The length that a holder asks of a child: any, exactly so many slots, or enough for so many parts of a size.
 #[derive(Clone, Copy)]
-pub enum Need {
+pub(crate) enum Need {
     Free,
     Exact(usize),
     Parts(u32, usize),
@@ -23,7 +23,7 @@ pub enum Need {
 
 impl Need {
     // Whether a length meets it. No part has size 0: so many slots are then enough for none.
-    pub fn met_by(self, len: usize) -> bool
+    pub(crate) fn met_by(self, len: usize) -> bool
         ensures { λ r. ⌜ r ≡ columns.meets (needOf self) len ⌝ }
     {
         match self {

@@ -20,7 +20,7 @@ use fault::Refusal;
 
 impl Reader<'_> {
     // One offset, which may not be negative or below `last`.
-    pub fn offset(&mut self, width: Width, last: u64, entry: Entry) -> Result<u64, BatchFault>
+    fn offset(&mut self, width: Width, last: u64, entry: Entry) -> Result<u64, BatchFault>
         ensures { λ r. ⌜ Reads (λ (v : ℕ). v) (offsetAfter (entryOf entry) (wide width) last) (now (self .entry)) r (now (self .exit)) ⌝ }
     {
         let start = self.at;

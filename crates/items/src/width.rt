@@ -22,7 +22,7 @@ impl Width {
     }
 
     // The least number whose top bit is set, which stands for a negative offset.
-    pub fn negative(self) -> u64
+    pub(crate) fn negative(self) -> u64
         ensures { λ r. ⌜ r ≡ 2 ^ (8 * wide self - 1) ⌝ }
     {
         match self {
