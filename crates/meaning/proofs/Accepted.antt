@@ -19,7 +19,7 @@ use Rattle.meaning.specs.Access.{Pick, StepFault, fault, kids, partner, struct
 use Rattle.meaning.specs.Rows.{item, itemBy, nothing, orZero}
 use Rattle.meaning.specs.Refusals.{codeOf, is, or, accepts, own, takes, fieldHook, chain, check}
 use Rattle.meaning.specs.Counts.{nanItem}
-use Rattle.meaning.specs.Enough.{Holds}
+use Rattle.meaning.proofs.Enough.{Holds}
 
 -- a code by its number holds no NaN, or holds those of its width
 no-nan : (k : Code) (body : List ℕ) (i : ℕ) → (codeOf k .0 ≡ 4 → ⊥) → (codeOf k .0 ≡ 5 → ⊥) → nanBy k body i ≡ false

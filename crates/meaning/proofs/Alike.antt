@@ -1,19 +1,18 @@
 -- Two keys are one key by their values exactly if they are by their slots.
-use mathlib.Core.Path.{_≡_, refl, sym, ap, ap₂, _∙_, subst}
+use mathlib.Core.Path.{_≡_, refl, sym}
 use mathlib.Core.List.{List, [], _∷_}
 use mathlib.Core.Bool.{Bool, true, false, cond}
-use mathlib.Core.Logic.{⊎-elim}
-use Prim.Native.Nat.{ℕ, zero, suc, _+_, _-_, _*_, _^_, _<_, _≤_}
+use Prim.Native.Nat.{ℕ, zero, suc, _-_, _*_, _^_, _<_}
 use native.Mathlib.Omega.{arith}
 use lib.Dec.{eqb, ltb}
 use lib.IntN.{ℤ, pos, negsuc}
-use lib.ListN.{length, take, drop}
+use lib.ListN.{take, drop}
 use Rattle.std.proofs.shelf.Ways.{tells}
-use Rattle.std.proofs.shelf.Tests.{cases-bool, ltb-true, ltb-false, ne-eqb}
+use Rattle.std.proofs.shelf.Tests.{ltb-true, ltb-false, ne-eqb}
 use Rattle.meaning.specs.Model.{Column, Primitive, boolean, int, long, float, double, date, time, timestamp, timestamptz, timestampNs, timestamptzNs, string, uuid, fixed, binary}
 use Rattle.meaning.specs.Slots.{little, stored, signed}
 use Rattle.meaning.specs.Rows.{literal, sameKey, sameWhole}
-use Rattle.meaning.specs.Formed.{Bytes}
+use Rattle.meaning.proofs.Formed.{Bytes}
 use Rattle.meaning.specs.Ideal.{alike}
 
 -- what w bytes can hold

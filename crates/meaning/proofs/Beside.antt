@@ -1,5 +1,5 @@
 -- Visitors whose hooks go together have walks that go together.
-use mathlib.Core.Path.{_≡_, refl}
+use mathlib.Core.Path.{refl}
 use mathlib.Core.List.{List, [], _∷_}
 use Prim.Native.Nat.{ℕ, _+_}
 use Rattle.std.specs.declared.result.Result.{Result}
@@ -8,7 +8,7 @@ use Rattle.meaning.specs.Forest.{Forest, none, tree, size}
 use Rattle.meaning.specs.Model.{Model, Field, Shape, prim, struct, list, map}
 use Rattle.meaning.specs.Access.{Pick, StepFault, partner}
 use Rattle.meaning.specs.Walk.{Step, ret, carry, bind, Role, structField, listElement, mapKey, mapValue, role, Hooks, close, finish, walk, visits, visitsStruct}
-use Rattle.meaning.specs.Alongside.{Ties, Both, Vals, Nothing, Alongside}
+use Rattle.meaning.proofs.Alongside.{Ties, Both, Vals, Nothing, Alongside}
 
 module _ {S S′ T T′ : Type 0} (k : Ties S S′ T T′) where
   -- from an earlier state, and one step after another

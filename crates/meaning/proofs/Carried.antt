@@ -1,5 +1,5 @@
 -- A visitor that goes along with the ideal converter converts as defined.
-use mathlib.Core.Path.{_≡_, sym, ap, _∙_, subst}
+use mathlib.Core.Path.{_≡_, ap, _∙_, subst}
 use mathlib.Core.List.{List}
 use Prim.Native.Nat.{ℕ}
 use native.Mathlib.Omega.{arith}
@@ -9,11 +9,11 @@ use Rattle.meaning.specs.Model.{Model}
 use Rattle.meaning.specs.Access.{Pick, Own, StepFault}
 use Rattle.meaning.specs.Rows.{rows}
 use Rattle.meaning.specs.Refusals.{converts}
-use Rattle.meaning.specs.Enough.{Enough}
-use Rattle.meaning.specs.Formed.{Filed}
+use Rattle.meaning.proofs.Enough.{Enough}
+use Rattle.meaning.proofs.Formed.{Filed}
 use Rattle.meaning.specs.Walk.{Hooks, visitsStruct}
 use Rattle.meaning.specs.Ideal.{Value, listed, converter, conversion}
-use Rattle.meaning.specs.Alongside.{Ties, Both, Alongside}
+use Rattle.meaning.proofs.Alongside.{Ties, Both, Alongside}
 use Rattle.meaning.proofs.Converting.{converted}
 use Rattle.meaning.proofs.Beside.{both-struct}
 

@@ -17,7 +17,7 @@ use Rattle.meaning.specs.Access.{Pick, Own, kids, partner}
 use Rattle.meaning.specs.Rows.{Item, Values, item, sameBy, anyOf, kept, joined, orZero, parts}
 use Rattle.meaning.specs.Refusals.{check}
 use Rattle.meaning.specs.Counts.{sameId, within, reaches, nanItem, forEach, forPairs, nansIn}
-use Rattle.meaning.specs.Enough.{Plain, Holds, Shaped, Enough}
+use Rattle.meaning.proofs.Enough.{Plain, Holds, Shaped, Enough}
 use Rattle.meaning.proofs.Keys.{same-alike}
 use Rattle.meaning.proofs.Totals.{sumTo, total, anyTo, any-upto, sum-ext, sum-none, sum-add, sum-cond, Cuts, hit, sum-cuts}
 use Rattle.meaning.proofs.Pairs.{sum-kept}

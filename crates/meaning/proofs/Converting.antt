@@ -1,23 +1,22 @@
 -- The walk of the converter gives the rows, takes the cells and refuses as defined.
-use mathlib.Core.Path.{_≡_, refl, sym, ap, ap₂, _∙_, subst}
+use mathlib.Core.Path.{_≡_, refl, sym, ap, _∙_, subst}
 use mathlib.Core.List.{List, [], _∷_, map as each}
-use mathlib.Core.Bool.{Bool, true, false, cond, _&&_, and-false}
-use Prim.Native.Nat.{ℕ, _+_, _<_}
+use mathlib.Core.Bool.{Bool, cond, and-false}
+use Prim.Native.Nat.{ℕ, _+_}
 use native.Mathlib.Omega.{arith}
 use lib.Dec.{ltb}
-use Rattle.std.specs.declared.option.Option.the-variants.{Some, None}
 use Rattle.std.specs.declared.result.Result.{Result}
 use Rattle.std.specs.declared.result.Result.the-variants.{Ok, Err}
-use Rattle.meaning.specs.Forest.{Forest, none, tree, size, beside}
-use Rattle.meaning.specs.Model.{Model, Field, Shape, prim, struct, list, map, at}
-use Rattle.meaning.specs.Slots.{null, upto}
+use Rattle.meaning.specs.Forest.{Forest, none, tree, size}
+use Rattle.meaning.specs.Model.{Model, Field, Shape, struct}
+use Rattle.meaning.specs.Slots.{upto}
 use Rattle.meaning.specs.Access.{Pick, Own, StepFault, partner}
-use Rattle.meaning.specs.Rows.{Item, nothing, record′, Values, joined, parts, row, rows}
+use Rattle.meaning.specs.Rows.{nothing, record′, joined, parts, row, rows}
 use Rattle.meaning.specs.Refusals.{own, fieldHook, chain, check, converts}
-use Rattle.meaning.specs.Enough.{Enough}
-use Rattle.meaning.specs.Formed.{Exactly, Formed, Filed}
+use Rattle.meaning.proofs.Enough.{Enough}
+use Rattle.meaning.proofs.Formed.{Formed, Filed}
 use Rattle.meaning.specs.Walk.{Step, ret, carry, bind, role, close, finish, walk, visitsStruct}
-use Rattle.meaning.specs.Ideal.{Value, listed, converter, conversion, Converted, Converted-law}
+use Rattle.meaning.specs.Ideal.{Value, listed, converter, conversion, Converted}
 use Rattle.meaning.proofs.Accepted.{target, Kind, partner-kind}
 use Rattle.meaning.proofs.Places.{Placed, placed-all, placed-here, placed-type, placed-below, placed-rest}
 use Rattle.meaning.proofs.Everywhere.{all-upto, each-ext}
@@ -130,7 +129,7 @@ agrees-err : {X : Type 0} (x : Result X StepFault × ℕ) (r : Result ℕ StepFa
 agrees-err {X} x (Ok u) v a f e = absurd (let d : _≡_ {A = Result X StepFault} (Ok v) (Err f) = sym (ap (λ y. y .0) a) ∙ e in let z : _≡_ {A = ℕ} 0 1 = cc in omega arith)
 agrees-err {X} x (Err g) v a f e = let d : _≡_ {A = Result X StepFault} (Err g) (Err f) = sym a ∙ e in cc
 
-pub converted : Converted-law
+pub converted : (m : Model) → Enough m → Filed m → (pick : Pick) → Own m pick → (cells : ℕ) → Converted m pick cells
 converted m keeps filed pick mine cells = record {
   accepted = ok-agrees (conversion m pick cells) (converts m pick cells) (listed (rows m pick)) whole;
   refused = err-agrees (conversion m pick cells) (converts m pick cells) (listed (rows m pick)) whole;

@@ -1,9 +1,8 @@
 -- The walk of the counter is the sum over what is reached.
-use mathlib.Core.Path.{_≡_, refl, sym, ap, _∙_, subst}
+use mathlib.Core.Path.{_≡_, refl, sym, ap, _∙_}
 use mathlib.Core.List.{List, [], _∷_, _++_}
 use mathlib.Core.Bool.{Bool, true, false, cond, not, _&&_}
 use Prim.Native.Nat.{ℕ, _+_, _-_}
-use native.Mathlib.Omega.{arith}
 use lib.Dec.{leb, ltb}
 use lib.ListN.{length}
 use Rattle.std.specs.declared.option.Option.{Option}
@@ -17,12 +16,13 @@ use Rattle.meaning.specs.Access.{Pick, Own, StepFault, fault, partner}
 use Rattle.meaning.specs.Rows.{sameBy, anyOf}
 use Rattle.meaning.specs.Counts.{Reach, Found, andThen, under, one, within, reaches, reached, float?, nans}
 use Rattle.meaning.specs.Law.{Table, Answer, has, added, adding}
-use Rattle.meaning.specs.Walk.{Step, ret, refuse, carry, bind, Role, structField, listElement, mapKey, mapValue, role, Hooks, fieldAt, missing, close, finish, walk}
-use Rattle.meaning.specs.Formed.{Exactly, Formed}
+use Rattle.meaning.specs.Walk.{Step, ret, carry, bind, Role, structField, listElement, mapKey, mapValue, role, fieldAt, missing, close, finish, walk}
+use Rattle.meaning.proofs.Formed.{Exactly, Formed}
 use Rattle.meaning.specs.Ideal.{unless}
 use Rattle.meaning.specs.Counter.{reach, reachBy, counter, counts, Counted-law}
 use Rattle.meaning.proofs.Accepted.{partner-kind}
 use Rattle.meaning.proofs.Steps.{target-found}
+use Rattle.meaning.proofs.Whole.{keeps-formed}
 use Rattle.meaning.proofs.Places.{Placed, placed-all, placed-here, placed-below, placed-rest}
 
 abbrev Outcome : Type 0
@@ -226,5 +226,5 @@ module _ (m : Model) (pick : Pick) (mine : Own m pick) where
       ap (λ (w : Result (List (Unit {0})) StepFault × Table). carry (close (counter m) struct 0 0) w) (walk-adds (m .fields) struct 0 1 0 (λ i. ltb i (m .rows)) (placed-all m) fo tt t)
       ∙ drop-units (units (m .fields)) (adds m (reached m pick) t)
 
-pub counted : Counted-law
-counted m fo pick mine t = counts-reached m pick mine fo t
+pub counted-law : Counted-law
+counted-law m k pick mine t = counts-reached m pick mine (keeps-formed m k) t

@@ -2,11 +2,9 @@
 use mathlib.Core.Path.{_≡_, refl}
 use mathlib.Core.List.{List, [], _∷_}
 use mathlib.Core.Bool.{false}
-use lib.Dec.{lit<}
-use Prim.Native.Nat.{ℕ, zero, suc, _+_, _≤_, _<_}
+use Prim.Native.Nat.{ℕ, zero, suc}
 use native.Mathlib.Omega.{arith}
 use lib.IntN.{pos}
-use lib.ListN.{getD}
 use Rattle.std.specs.declared.option.Option.the-variants.{Some, None}
 use Rattle.std.specs.declared.result.Result.the-variants.{Ok}
 use Rattle.meaning.specs.Forest.{none, tree}
@@ -16,10 +14,9 @@ use Rattle.meaning.specs.Rows.{rows}
 use Rattle.meaning.specs.Refusals.{converts}
 use Rattle.meaning.specs.Counts.{reached}
 use Rattle.meaning.specs.Law.{Call, computes, counted, rowNans, hidden}
-use Rattle.meaning.specs.Trees.{Rules}
-use Rattle.meaning.specs.Formed.{Formed, Stored}
+use Rattle.meaning.specs.Keeps.{Keeps, ColumnsKeep}
 use Rattle.meaning.specs.Ideal.{listed, conversion}
-use Rattle.meaning.proofs.Filing.{converted-trees}
+use Rattle.meaning.proofs.Filing.{converted-law}
 
 abbrev field : ℕ → Shape → Field
 field i s = record { id = pos i; required = false; name = []; shape = s }
@@ -46,38 +43,35 @@ some-own : Own some pick
 some-own zero f k e = rw (← (let t : 1 ≡ k = cc in t)) refl
 some-own (suc c) f k e = cc
 
-some-up : (i : ℕ) → i < 1 → getD (0 ∷ 3 ∷ []) i 0 ≤ getD (0 ∷ 3 ∷ []) (i + 1) 0
-some-up zero h = omega arith
-some-up (suc i) h = absurd (omega arith)
-
-some-rules : Rules some
-some-rules = record {
-  shaped = (tt, (tt, tt, (tt, tt, tt)), tt);
-  few = omega arith;
-  short = omega arith;
-  top = (refl, tt);
-  sound = (omega arith, (record { up = some-up; end = omega arith }, refl), (omega arith, tt, tt, (omega arith, tt, tt, tt)), tt);
+some-keeps : Keeps some
+some-keeps = record {
+  rows = omega arith;
+  fewFields = omega arith;
+  fieldLevels = omega arith;
+  fields = (omega arith, omega arith, (refl, tt), (omega arith, omega arith, (tt, refl), tt, (omega arith, omega arith, (tt, refl), tt, tt)), tt);
+  fewColumns = omega arith;
+  columnLevels = omega arith;
+  columns = (omega arith, tt, omega arith, tt, (omega arith, refl, refl, omega arith, omega arith), (omega arith, tt, omega arith, tt, (refl, omega arith, refl, refl), tt, values), tt);
+  lengths = (refl, tt);
+  small = omega arith;
 }
+  where
+    values : ColumnsKeep (tree (col (words float64) 3 [] (0 ∷ 0 ∷ 0 ∷ 0 ∷ 0 ∷ 0 ∷ 248 ∷ 127 ∷ 0 ∷ 0 ∷ 0 ∷ 0 ∷ 0 ∷ 0 ∷ 248 ∷ 127 ∷ 0 ∷ 0 ∷ 0 ∷ 0 ∷ 0 ∷ 0 ∷ 240 ∷ 63 ∷ [])) none none)
+    values = (omega arith, tt, omega arith, tt, (refl, omega arith, refl, refl), tt, tt)
 
-abbrev call : Call Rules
-call = record { model = some; keeps = some-rules; pick = pick; own = some-own }
+abbrev call : Call
+call = record { model = some; keeps = some-keeps; pick = pick; own = some-own }
 
 -- two NaN keys are one key, shown once; the value kept for it is the last, 1, and one NaN value stands in the rows
 some-accepted : converts some pick 2048 ≡ Ok 13
 some-accepted = refl
 
-some-keys : (counted (computes Rules call [] .1) (pos 2) ≡ Some 2) × (rowNans Rules (pos 2) call (rows some pick) ≡ 1) × (hidden Rules call (pos 2) (reached some pick .0) ≡ 1)
+some-keys : (counted (computes call [] .1) (pos 2) ≡ Some 2) × (rowNans (pos 2) call (rows some pick) ≡ 1) × (hidden call (pos 2) (reached some pick .0) ≡ 1)
 some-keys = (refl, refl, refl)
 
-some-values : (counted (computes Rules call [] .1) (pos 3) ≡ Some 2) × (rowNans Rules (pos 3) call (rows some pick) ≡ 1) × (hidden Rules call (pos 3) (reached some pick .0) ≡ 1)
+some-values : (counted (computes call [] .1) (pos 3) ≡ Some 2) × (rowNans (pos 3) call (rows some pick) ≡ 1) × (hidden call (pos 3) (reached some pick .0) ≡ 1)
 some-values = (refl, refl, refl)
 
--- the premises of the walks' laws hold of it too, so the walk gives its rows
-some-formed : Formed (some .fields)
-some-formed = (tt, (tt, tt, (tt, tt, tt)), tt)
-
-some-stored : Stored (some .columns)
-some-stored = (tt, ((lit< tt, (lit< tt, (lit< tt, (lit< tt, (lit< tt, (lit< tt, (lit< tt, (lit< tt, (lit< tt, (lit< tt, (lit< tt, (lit< tt, tt)))))))))))), tt, ((lit< tt, (lit< tt, (lit< tt, (lit< tt, (lit< tt, (lit< tt, (lit< tt, (lit< tt, (lit< tt, (lit< tt, (lit< tt, (lit< tt, (lit< tt, (lit< tt, (lit< tt, (lit< tt, (lit< tt, (lit< tt, (lit< tt, (lit< tt, (lit< tt, (lit< tt, (lit< tt, (lit< tt, tt)))))))))))))))))))))))), tt, tt)), tt)
-
+-- the walk gives its rows
 some-walked : conversion some pick 2048 ≡ (Ok (listed (rows some pick)), 13)
-some-walked = converted-trees some some-rules some-formed some-stored pick some-own 2048 .accepted 13 some-accepted
+some-walked = converted-law some some-keeps pick some-own 2048 .accepted 13 some-accepted

@@ -5,12 +5,12 @@ use lib.Dec.{eqb, ltb}
 use Rattle.std.specs.declared.option.Option.the-variants.{Some}
 use Rattle.meaning.specs.Forest.{Forest, none, tree, size, find}
 use Rattle.meaning.specs.Model.{Model, Column, Field, Shape, prim, struct, list, map, head, at}
-use Rattle.meaning.specs.Access.{Pick, Own}
-use Rattle.meaning.specs.Enough.{Holds, Shaped}
-use Rattle.meaning.specs.Trees.{Rules}
-use Rattle.meaning.specs.Formed.{Exactly, Formed, Bytes, Stored, Filed}
-use Rattle.meaning.specs.Ideal.{Converted-trees}
+use Rattle.meaning.proofs.Enough.{Holds, Shaped, Enough}
+use Rattle.meaning.proofs.Formed.{Exactly, Formed, Bytes, Stored, Filed}
+use Rattle.meaning.specs.Keeps.{Keeps}
+use Rattle.meaning.specs.Ideal.{Converted-law}
 use Rattle.meaning.proofs.Kept.{rules-keep}
+use Rattle.meaning.proofs.Whole.{keeps-rules, keeps-formed, keeps-stored}
 use Rattle.meaning.proofs.Converting.{converted}
 
 -- a type that holds exactly its fields holds them
@@ -46,5 +46,12 @@ column-bytes m s (suc c) = find-bytes (m .columns) (suc c) 1 s
 pub filed-trees : (m : Model) → Formed (m .fields) → Stored (m .columns) → Filed m
 filed-trees m fo st = record { formed = fo; bytes = column-bytes m st }
 
-pub converted-trees : Converted-trees
-converted-trees m rules fo st pick mine cells = converted m (rules-keep m rules) (filed-trees m fo st) pick mine cells
+-- the rules of a batch give both premises
+pub keeps-enough : (m : Model) → Keeps m → Enough m
+keeps-enough m k = rules-keep m (keeps-rules m k)
+
+pub keeps-filed : (m : Model) → Keeps m → Filed m
+keeps-filed m k = filed-trees m (keeps-formed m k) (keeps-stored m k)
+
+pub converted-law : Converted-law
+converted-law m k pick mine cells = converted m (keeps-enough m k) (keeps-filed m k) pick mine cells

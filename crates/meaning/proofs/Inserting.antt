@@ -1,19 +1,19 @@
 -- Pairs put in one after another are the pairs that are kept.
 use mathlib.Core.Path.{_≡_, refl, sym, ap, ap₂, _∙_, subst}
 use mathlib.Core.List.{List, [], _∷_, _++_, map as each, append-assoc}
-use mathlib.Core.Bool.{Bool, true, false, cond, not, _||_}
+use mathlib.Core.Bool.{Bool, true, false, cond, _||_}
 use mathlib.Core.Logic.{_⊎_, ⊎-elim}
 use Prim.Native.Nat.{ℕ}
 use native.Mathlib.Omega.{arith}
 use lib.IntN.{ℤ, pos, negsuc}
-use Rattle.std.proofs.shelf.Tests.{cases-bool, or-parts, or-cases, or-left, or-right, both-ways}
+use Rattle.std.proofs.shelf.Tests.{cases-bool, or-cases, or-left, or-right, both-ways}
 use Rattle.meaning.specs.Model.{Column}
 use Rattle.meaning.specs.Slots.{cut}
 use Rattle.meaning.specs.Rows.{Item, nothing, truth, whole, longer, single, doubled, raw, record′, sequence, mapping, sameWhole, sameBytes, same32, same64, anyOf, lastSame, keptFrom, kept}
 use Rattle.meaning.specs.Ideal.{Value, slot, sameTruth, alike, pairs}
-use Rattle.meaning.specs.Inserted.{inserted, insertedAll}
+use Rattle.meaning.proofs.Inserted.{inserted, insertedAll}
 use Rattle.meaning.proofs.Keys.{Alike, numbers, bytes, truths, singles, doubles}
-use Rattle.meaning.proofs.Everywhere.{All, each-ext}
+use Rattle.meaning.proofs.Everywhere.{All}
 
 -- a test that goes both ways and on
 pub record Linked {X : Type 0} (same : X → X → Bool) : Type 0 where

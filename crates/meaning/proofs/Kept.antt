@@ -11,8 +11,8 @@ use Rattle.std.proofs.shelf.Tests.{eqb-true, eq-eqb, ne-eqb, lt-ltb, le-ltb}
 use Rattle.meaning.specs.Forest.{Forest, none, tree, size, numbers, find}
 use Rattle.meaning.specs.Model.{Model, Column, Code, bits, words, variable, fixedSizeBinary, structs, lists, largeLists, fixedSizeLists, maps, batch, column, head, below, at}
 use Rattle.meaning.specs.Access.{kids, among, struct?, map?, isStruct, isMap}
-use Rattle.meaning.specs.Enough.{Enough, Cutting, Ascends}
-use Rattle.meaning.specs.Trees.{Long, Below, Sound, Rules}
+use Rattle.meaning.proofs.Enough.{Enough, Cutting, Ascends}
+use Rattle.meaning.proofs.Trees.{Long, Below, Sound, Rules}
 
 abbrev Tree : Type 0
 Tree = Column × Forest Column

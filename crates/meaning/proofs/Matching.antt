@@ -1,5 +1,5 @@
 -- The two accessors pick a struct's own children.
-use mathlib.Core.Path.{_≡_, refl}
+use mathlib.Core.Path.{_≡_}
 use mathlib.Core.Bool.{Bool, true, false, cond, _||_}
 use Prim.Native.Nat.{ℕ, _+_}
 use native.Mathlib.Omega.{arith}
@@ -9,7 +9,7 @@ use Rattle.std.specs.declared.option.Option.the-variants.{Some, None}
 use Rattle.std.proofs.shelf.Tests.{eq-eqb, or-left, or-right}
 use Rattle.meaning.specs.Forest.{Forest, none, tree, size, numbers, find}
 use Rattle.meaning.specs.Model.{Model, Field, Column, children}
-use Rattle.meaning.specs.Access.{Pick, Own, kids, among}
+use Rattle.meaning.specs.Access.{Own, kids, among}
 use Rattle.meaning.specs.Match.{is, reads, sameBytes, firstOf, byField, byId, byName}
 
 first-among : (f : Column → Bool) (n k : ℕ) (F : Forest Column) → firstOf f n F ≡ Some k → among k (numbers n F) ≡ true

@@ -1,7 +1,7 @@
 -- Where a walk stands: its fields are found by their numbers, and a column's child has it for its holder.
 use mathlib.Core.List.{List, [], _∷_}
 use mathlib.Core.Logic.{_⊎_, inl, inr, ⊎-elim}
-use mathlib.Core.Path.{_≡_, refl, sym, ap, _∙_, subst, subst₂}
+use mathlib.Core.Path.{_≡_, refl, sym, ap, _∙_, subst₂}
 use mathlib.Core.Bool.{Bool, true, false, cond, _||_}
 use Prim.Native.Nat.{ℕ, zero, suc, _+_, _≤_, _<_}
 use native.Mathlib.Omega.{arith}
@@ -11,8 +11,8 @@ use Rattle.std.specs.declared.option.Option.{Option}
 use Rattle.std.specs.declared.option.Option.the-variants.{Some, None}
 use Rattle.std.proofs.shelf.Tests.{eqb-true, eq-eqb, ne-eqb, lt-ltb, le-ltb, cond-true, cond-false, or-left, or-right}
 use Rattle.meaning.specs.Forest.{Forest, none, tree, size, numbers, find}
-use Rattle.meaning.specs.Model.{Model, Field, Column, Shape, prim, struct, list, map, batch, column, below}
-use Rattle.meaning.specs.Access.{Pick, Own, kids, among}
+use Rattle.meaning.specs.Model.{Model, Field, Column, below}
+use Rattle.meaning.specs.Access.{kids, among}
 use Rattle.meaning.specs.Walk.{fieldAt, typeOf, typeAt, nowhere, missing}
 use Rattle.meaning.specs.Ideal.{holderIn, holder}
 

@@ -1,4 +1,4 @@
--- The law of rows, for whatever rules a batch keeps if they hold those of `Enough`.
+-- The law of rows.
 use mathlib.Core.Path.{_≡_, refl, sym, ap, _∙_, subst}
 use mathlib.Core.List.{List, [], _∷_}
 use mathlib.Core.Bool.{false, cond, not, _&&_}
@@ -20,7 +20,7 @@ use Rattle.meaning.specs.Rows.{parts, row, rows, joined}
 use Rattle.meaning.specs.Refusals.{converts, check}
 use Rattle.meaning.specs.Counts.{Reach, reached, nansIn, hiddenNans, sameId}
 use Rattle.meaning.specs.Law.{Call, adding, computes, counted, hidden, orZero, rowNans, Rows-law}
-use Rattle.meaning.specs.Enough.{Enough}
+use Rattle.meaning.proofs.Filing.{keeps-enough}
 use Rattle.meaning.proofs.Totals.{total, total-upto, sum-ext}
 use Rattle.meaning.proofs.Accepted.{chain-ok}
 use Rattle.meaning.proofs.Found.{Good}
@@ -28,7 +28,7 @@ use Rattle.meaning.proofs.Conserved.{inParts, conserves}
 use Rattle.meaning.proofs.Nans.{reachSum, hiddenSum, sum-hidden, reach-bound, nans-small}
 use Rattle.meaning.proofs.Counter.{Counts, counts-all, orNought}
 
-module _ (K : Model → Type 0) (enough : (m : Model) → K m → Enough m) (c : Call K) (id : ℤ) where
+module _ (c : Call) (id : ℤ) where
   abbrev m : Model
   m = c .model
 
@@ -36,50 +36,46 @@ module _ (K : Model → Type 0) (enough : (m : Model) → K m → Enough m) (c :
   ours = reached m (c .pick) .0
 
   -- the law's words for the sums
-  hidden-sum : (rs : List Reach) → hiddenSum m id rs ≡ hidden K c id rs
+  hidden-sum : (rs : List Reach) → hiddenSum m id rs ≡ hidden c id rs
   hidden-sum [] = refl
   hidden-sum (r ∷ rs) = ap (λ k. cond (sameId id (r .id)) (hiddenNans m r) 0 + k) (hidden-sum rs)
 
-  or-zero : (o : Option ℕ) → orZero K o ≡ orNought o
+  or-zero : (o : Option ℕ) → orZero o ≡ orNought o
   or-zero None = refl
   or-zero (Some n) = refl
 
-  rows-joined : (xs : List ℕ) → rowNans K id c (joined (row m (c .pick)) xs) ≡ total (λ i. nansIn id (m .fields) struct (parts m (c .pick) (m .fields) struct 1 0 i)) xs
+  rows-joined : (xs : List ℕ) → rowNans id c (joined (row m (c .pick)) xs) ≡ total (λ i. nansIn id (m .fields) struct (parts m (c .pick) (m .fields) struct 1 0 i)) xs
   rows-joined [] = refl
   rows-joined (x ∷ xs) = ap (λ k. nansIn id (m .fields) struct (parts m (c .pick) (m .fields) struct 1 0 x) + k) (rows-joined xs)
 
   row-shown : (i n k : ℕ) → i < n → cond (ltb i n && not (ltb i n && false)) k 0 ≡ k
   row-shown i n k h = rw (lt-ltb i n h) refl
 
-  rows-shown : inParts m (c .pick) id (m .fields) struct 1 0 (λ i. ltb i (m .rows)) ≡ rowNans K id c (rows m (c .pick))
+  rows-shown : inParts m (c .pick) id (m .fields) struct 1 0 (λ i. ltb i (m .rows)) ≡ rowNans id c (rows m (c .pick))
   rows-shown = sum-ext (m .rows) _ _ (λ i h. row-shown i (m .rows) _ h) ∙ (sym (total-upto _ (m .rows)) ∙ sym (rows-joined (upto (m .rows))))
 
   -- where conversion accepts, the walk finds no refusal, few reaches, and shows the NaNs of the rows
   module _ (cells taken : ℕ) (e : converts m (c .pick) cells ≡ Ok taken) where
     walked : Good m id (reached m (c .pick)) (size (m .fields)) (inParts m (c .pick) id (m .fields) struct 1 0 (λ i. ltb i (m .rows)))
     walked =
-        let k = enough m (c .keeps) in
+        let k = keeps-enough m (c .keeps) in
         let a = chain-ok m (c .pick) cells (check m (c .pick) cells (m .fields) struct 0 1 0 0) _ taken e in
         conserves m (c .pick) id cells k (c .own) (m .fields) struct 0 1 0 (λ i. ltb i (m .rows)) 0 (a .0) tt (k .shaped) tt (a .1)
 
     few : length ours ≤ 256
-    few = le-trans (walked .few) (enough m (c .keeps) .few)
+    few = le-trans (walked .few) (keeps-enough m (c .keeps) .few)
 
     small : reachSum m id ours ≤ 2 ^ 64 - 1
-    small = omega (arith, few, reach-bound m id 65536 (λ x. le-trans (nans-small m x) (enough m (c .keeps) .short x)) ours)
+    small = omega (arith, few, reach-bound m id 65536 (λ x. le-trans (nans-small m x) (keeps-enough m (c .keeps) .short x)) ours)
 
-    counted-all : Counts m id [] (reachSum m id ours) (computes K c [])
+    counted-all : Counts m id [] (reachSum m id ours) (computes c [])
     counted-all = subst (λ (o : Option StepFault). Counts m id [] (reachSum m id ours) (adding m [] ours o)) (sym (walked .whole)) (counts-all m id ours [] tt (omega (arith, few)) (omega (arith, small)))
 
-    conserved : orZero K (counted (computes K c [] .1) id) ≡ rowNans K id c (rows m (c .pick)) + hidden K c id ours
-    conserved = or-zero (counted (computes K c [] .1) id) ∙ (counted-all .counts ∙ omega (arith, sum-hidden m id ours, walked .shows, rows-shown, hidden-sum ours))
+    conserved : orZero (counted (computes c [] .1) id) ≡ rowNans id c (rows m (c .pick)) + hidden c id ours
+    conserved = or-zero (counted (computes c [] .1) id) ∙ (counted-all .counts ∙ omega (arith, sum-hidden m id ours, walked .shows, rows-shown, hidden-sum ours))
 
--- the rules that a batch in hand keeps may say more than `Enough`
-pub rows-law : (K : Model → Type 0) → ((m : Model) → K m → Enough m) → Rows-law K
-rows-law K enough = record {
-  accepted = λ c cells taken e. counted-all K enough c (pos 0) cells taken e .taken;
-  conserved = λ c cells taken e id. conserved K enough c id cells taken e;
+pub rows-law : Rows-law
+rows-law = record {
+  accepted = λ c cells taken e. counted-all c (pos 0) cells taken e .taken;
+  conserved = λ c cells taken e id. conserved c id cells taken e;
 }
-
-pub rows-hold : Rows-law Enough
-rows-hold = rows-law Enough (λ m k. k)

@@ -2,24 +2,22 @@
 use mathlib.Core.Path.{_≡_, refl, sym, ap, ap₂, _∙_, subst}
 use mathlib.Core.List.{List, [], _∷_, map as each}
 use mathlib.Core.Bool.{Bool, true, false, cond, not, _&&_}
-use Prim.Native.Nat.{ℕ, suc, _+_, _-_, _*_, _/_, _<_, _≤_}
+use Prim.Native.Nat.{ℕ, _+_, _-_, _*_, _<_}
 use native.Mathlib.Omega.{arith}
 use lib.Dec.{eqb, ltb}
 use lib.ListN.{length, getD}
-use Rattle.std.specs.declared.option.Option.{Option}
-use Rattle.std.specs.declared.option.Option.the-variants.{Some, None}
-use Rattle.std.specs.declared.result.Result.{Result}
-use Rattle.std.specs.declared.result.Result.the-variants.{Ok, Err}
+use Rattle.std.specs.declared.option.Option.the-variants.{Some}
+use Rattle.std.specs.declared.result.Result.the-variants.{Ok}
 use Rattle.std.proofs.shelf.Tests.{eq-eqb, ne-eqb, le-ltb, cond-true, not-from-true}
 use Rattle.meaning.specs.Forest.{Forest, none, tree, size, count}
 use Rattle.meaning.specs.Model.{Model, Column, Field, Shape, prim, struct, list, map, Primitive, boolean, int, long, float, double, date, time, timestamp, timestamptz, timestampNs, timestamptzNs, string, uuid, fixed, binary, Code, bits, words, variable, fixedSizeBinary, structs, lists, largeLists, fixedSizeLists, maps, at}
-use Rattle.meaning.specs.Slots.{null, span, cut, from, upto}
-use Rattle.meaning.specs.Access.{Pick, Own, StepFault, fault, kids, partner, struct?, list?, map?}
-use Rattle.meaning.specs.Rows.{Item, nothing, record′, sequence, mapping, Values, item, itemBy, literal, sameKey, sameBy, joined, kept, parts, orZero}
-use Rattle.meaning.specs.Refusals.{accepts, some, sum, needs, second, holds, takes, own, fieldHook, chain, check}
-use Rattle.meaning.specs.Enough.{Plain, Cutting, Enough}
-use Rattle.meaning.specs.Formed.{Exactly, Formed, Bytes, Filed}
-use Rattle.meaning.specs.Walk.{Step, ret, Role, structField, listElement, mapKey, mapValue, role, fieldAt, typeAt, missing, close, finish}
+use Rattle.meaning.specs.Slots.{null, span, cut, upto}
+use Rattle.meaning.specs.Access.{Pick, Own, fault, kids, struct?, list?, map?}
+use Rattle.meaning.specs.Rows.{nothing, record′, sequence, mapping, Values, item, itemBy, literal, sameBy, joined, kept, parts, orZero}
+use Rattle.meaning.specs.Refusals.{accepts, some, sum, holds, takes, own, fieldHook, check}
+use Rattle.meaning.proofs.Enough.{Plain, Cutting, Enough}
+use Rattle.meaning.proofs.Formed.{Exactly, Formed, Bytes, Filed}
+use Rattle.meaning.specs.Walk.{Step, mapKey, mapValue, role, fieldAt, typeAt, missing, close, finish}
 use Rattle.meaning.specs.Ideal.{Value, isNull, slot, put, alike, primOf, structOf, listOf, mapOf, requiredOf, unless, holder, rowsBy, pastEnd, nullIn, rowed, across, elements, pairs, entries, pairCells, uneven, taking, bare, fieldStep, converter}
 use Rattle.meaning.proofs.Totals.{Cuts}
 use Rattle.meaning.proofs.Spans.{list-cuts, map-cuts}

@@ -2,7 +2,7 @@
 use mathlib.Core.Path.{_≡_, refl, sym, _∙_, ap}
 use mathlib.Core.List.{List, [], _∷_, map as each}
 use mathlib.Core.Logic.{inl, inr}
-use mathlib.Core.Bool.{true, false}
+use mathlib.Core.Bool.{true}
 use Prim.Native.Nat.{ℕ, _+_, _≤_}
 use native.Mathlib.Omega.{arith}
 use lib.Dec.{leb}
@@ -35,59 +35,58 @@ adding-all m t (r ∷ rs) e h =
       | inr f ↦ rw f (adding-all m t rs e (rw f at h))
     ]
 
-module _ (Keeps : Model → Type 0) where
-  abbrev own : Call Keeps → List (ℤ × ℕ)
-  own c = floats (c .model) (reached (c .model) (c .pick) .0)
+abbrev own : Call → List (ℤ × ℕ)
+own c = floats (c .model) (reached (c .model) (c .pick) .0)
 
-  sumOf-reordered : {cs ds : List (Call Keeps)} (q : ℤ) → Reordered cs ds → sumOf q (allFloats Keeps cs) ≡ sumOf q (allFloats Keeps ds)
-  sumOf-reordered q done = refl
-  sumOf-reordered q (skip {x} {xs} {ys} r) = rw (sumOf-both q (own x) (allFloats Keeps xs), sumOf-both q (own x) (allFloats Keeps ys), sumOf-reordered q r)
-  sumOf-reordered q (swap {x} {y} {xs}) = sumOf-turn q (own x) (own y) (allFloats Keeps xs)
-  sumOf-reordered q (trans r s) = sumOf-reordered q r ∙ sumOf-reordered q s
+sumOf-reordered : {cs ds : List Call} (q : ℤ) → Reordered cs ds → sumOf q (allFloats cs) ≡ sumOf q (allFloats ds)
+sumOf-reordered q done = refl
+sumOf-reordered q (skip {x} {xs} {ys} r) = rw (sumOf-both q (own x) (allFloats xs), sumOf-both q (own x) (allFloats ys), sumOf-reordered q r)
+sumOf-reordered q (swap {x} {y} {xs}) = sumOf-turn q (own x) (own y) (allFloats xs)
+sumOf-reordered q (trans r s) = sumOf-reordered q r ∙ sumOf-reordered q s
 
-  mentions-reordered : {cs ds : List (Call Keeps)} (q : ℤ) → Reordered cs ds → mentions q (allFloats Keeps cs) ≡ mentions q (allFloats Keeps ds)
-  mentions-reordered q done = refl
-  mentions-reordered q (skip {x} {xs} {ys} r) = rw (mentions-both q (own x) (allFloats Keeps xs), mentions-both q (own x) (allFloats Keeps ys), mentions-reordered q r)
-  mentions-reordered q (swap {x} {y} {xs}) = mentions-turn q (own x) (own y) (allFloats Keeps xs)
-  mentions-reordered q (trans r s) = mentions-reordered q r ∙ mentions-reordered q s
+mentions-reordered : {cs ds : List Call} (q : ℤ) → Reordered cs ds → mentions q (allFloats cs) ≡ mentions q (allFloats ds)
+mentions-reordered q done = refl
+mentions-reordered q (skip {x} {xs} {ys} r) = rw (mentions-both q (own x) (allFloats xs), mentions-both q (own x) (allFloats ys), mentions-reordered q r)
+mentions-reordered q (swap {x} {y} {xs}) = mentions-turn q (own x) (own y) (allFloats xs)
+mentions-reordered q (trans r s) = mentions-reordered q r ∙ mentions-reordered q s
 
-  folded-reordered : (cs ds : List (Call Keeps)) → Reordered cs ds → folded [] (allFloats Keeps cs) ≡ folded [] (allFloats Keeps ds)
-  folded-reordered cs ds r =
-      alike-equal (folded [] (allFloats Keeps cs)) (folded [] (allFloats Keeps ds)) (ascending-folded [] (allFloats Keeps cs) tt) (ascending-folded [] (allFloats Keeps ds) tt)
-      (λ q. sum-folded (allFloats Keeps cs) q ∙ (rw (sumOf-reordered q r, mentions-reordered q r) (sym (sum-folded (allFloats Keeps ds) q))))
+folded-reordered : (cs ds : List Call) → Reordered cs ds → folded [] (allFloats cs) ≡ folded [] (allFloats ds)
+folded-reordered cs ds r =
+    alike-equal (folded [] (allFloats cs)) (folded [] (allFloats ds)) (ascending-folded [] (allFloats cs) tt) (ascending-folded [] (allFloats ds) tt)
+    (λ q. sum-folded (allFloats cs) q ∙ (rw (sumOf-reordered q r, mentions-reordered q r) (sym (sum-folded (allFloats ds) q))))
 
-  -- one call, with room for it and for the calls to come
-  room : (c : Call Keeps) (cs : List (Call Keeps)) (t : Table) → length (folded t (allFloats Keeps (c ∷ cs))) ≤ 256 → length (folded (folded t (own c)) (allFloats Keeps cs)) ≤ 256
-  room c cs t h = rw (folded-both t (own c) (allFloats Keeps cs)) at h
+-- one call, with room for it and for the calls to come
+room : (c : Call) (cs : List Call) (t : Table) → length (folded t (allFloats (c ∷ cs))) ≤ 256 → length (folded (folded t (own c)) (allFloats cs)) ≤ 256
+room c cs t h = rw (folded-both t (own c) (allFloats cs)) at h
 
-  computes-all : (c : Call Keeps) (cs : List (Call Keeps)) (t : Table) → length (folded t (allFloats Keeps (c ∷ cs))) ≤ 256 → computes Keeps c t ≡ (answer (reached (c .model) (c .pick) .1), folded t (own c))
-  computes-all c cs t h =
-      adding-all (c .model) t (reached (c .model) (c .pick) .0) (reached (c .model) (c .pick) .1)
-      (omega (arith, room c cs t h, length-folded (folded t (own c)) (allFloats Keeps cs)))
+computes-all : (c : Call) (cs : List Call) (t : Table) → length (folded t (allFloats (c ∷ cs))) ≤ 256 → computes c t ≡ (answer (reached (c .model) (c .pick) .1), folded t (own c))
+computes-all c cs t h =
+    adding-all (c .model) t (reached (c .model) (c .pick) .0) (reached (c .model) (c .pick) .1)
+    (omega (arith, room c cs t h, length-folded (folded t (own c)) (allFloats cs)))
 
-  -- all calls, from any table
-  after-all : (cs : List (Call Keeps)) (t : Table) → length (folded t (allFloats Keeps cs)) ≤ 256 → after Keeps cs t ≡ folded t (allFloats Keeps cs)
-  after-all [] t h = refl
-  after-all (c ∷ cs) t h =
-      ap (λ (p : Answer × Table). after Keeps cs (p .1)) (computes-all c cs t h)
-      ∙ (after-all cs (folded t (own c)) (room c cs t h)
-      ∙ sym (folded-both t (own c) (allFloats Keeps cs)))
+-- all calls, from any table
+after-all : (cs : List Call) (t : Table) → length (folded t (allFloats cs)) ≤ 256 → after cs t ≡ folded t (allFloats cs)
+after-all [] t h = refl
+after-all (c ∷ cs) t h =
+    ap (λ (p : Answer × Table). after cs (p .1)) (computes-all c cs t h)
+    ∙ (after-all cs (folded t (own c)) (room c cs t h)
+    ∙ sym (folded-both t (own c) (allFloats cs)))
 
-  answers-all : (cs : List (Call Keeps)) (t : Table) → length (folded t (allFloats Keeps cs)) ≤ 256 → answers Keeps cs t ≡ each (λ c. (c, answer (reached (c .model) (c .pick) .1))) cs
-  answers-all [] t h = refl
-  answers-all (c ∷ cs) t h =
-      ap (λ (p : Answer × Table). (c, p .0) ∷ answers Keeps cs (p .1)) (computes-all c cs t h)
-      ∙ ap (λ (rest : List (Call Keeps × Answer)). (c, answer (reached (c .model) (c .pick) .1)) ∷ rest) (answers-all cs (folded t (own c)) (room c cs t h))
+answers-all : (cs : List Call) (t : Table) → length (folded t (allFloats cs)) ≤ 256 → answers cs t ≡ each (λ c. (c, answer (reached (c .model) (c .pick) .1))) cs
+answers-all [] t h = refl
+answers-all (c ∷ cs) t h =
+    ap (λ (p : Answer × Table). (c, p .0) ∷ answers cs (p .1)) (computes-all c cs t h)
+    ∙ ap (λ (rest : List (Call × Answer)). (c, answer (reached (c .model) (c .pick) .1)) ∷ rest) (answers-all cs (folded t (own c)) (room c cs t h))
 
-  fits : (cs : List (Call Keeps)) → Few Keeps cs → length (folded [] (allFloats Keeps cs)) ≤ 256
-  fits cs few = omega (arith, length-distinct (allFloats Keeps cs))
+fits : (cs : List Call) → Few cs → length (folded [] (allFloats cs)) ≤ 256
+fits cs few = omega (arith, length-distinct (allFloats cs))
 
-  pub sums-law : Sums-law Keeps
-  sums-law = record {
-    sum = λ cs few id. ap (λ (t : Table). counted t id) (after-all cs [] (fits cs few)) ∙ sum-folded (allFloats Keeps cs) id;
-    table = λ cs ds few r.
-        let e : folded [] (allFloats Keeps cs) ≡ folded [] (allFloats Keeps ds) = folded-reordered cs ds r in
-        after-all cs [] (fits cs few) ∙ (e ∙ sym (after-all ds [] (rw e at (fits cs few))));
-    alone = λ cs few. answers-all cs [] (fits cs few);
-    few = λ cs ds few r. omega (arith, fits cs few, ap {B = ℕ} length (folded-reordered cs ds r), distinct-length (allFloats Keeps ds));
-  }
+pub sums-law : Sums-law
+sums-law = record {
+  sum = λ cs few id. ap (λ (t : Table). counted t id) (after-all cs [] (fits cs few)) ∙ sum-folded (allFloats cs) id;
+  table = λ cs ds few r.
+      let e : folded [] (allFloats cs) ≡ folded [] (allFloats ds) = folded-reordered cs ds r in
+      after-all cs [] (fits cs few) ∙ (e ∙ sym (after-all ds [] (rw e at (fits cs few))));
+  alone = λ cs few. answers-all cs [] (fits cs few);
+  few = λ cs ds few r. omega (arith, fits cs few, ap {B = ℕ} length (folded-reordered cs ds r), distinct-length (allFloats ds));
+}

@@ -1,17 +1,16 @@
 -- The rules of a batch give those on which the laws of rows and of conversion rest, so the laws hold of every batch that keeps the rules.
-use mathlib.Core.Path.{_≡_, refl, sym, subst, _∙_, ap}
+use mathlib.Core.Path.{_≡_, sym, _∙_, ap}
 use mathlib.Core.List.{List, [], _∷_}
 use Prim.Native.Nat.{ℕ, zero, suc, _+_, _<_, _≤_, _/_}
 use native.Mathlib.Omega.{arith}
 use native.Mathlib.Numerals.{add-one}
 use lib.ListN.{length, getD}
-use Rattle.std.specs.shelf.Lists.{All}
-use Rattle.meaning.specs.Forest.{Forest, none, tree, size, count}
+use Rattle.meaning.specs.Forest.{Forest, none, tree, count}
 use Rattle.meaning.specs.Model.{Model, Field, Column, Shape, prim, struct, list, map, Code, bits, words, variable, fixedSizeBinary, structs, lists, largeLists, fixedSizeLists, maps}
 use Rattle.meaning.specs.Keeps.{Keeps, FieldsKeep, ColumnsKeep, Lengths, Rising, Cuts, Within, Bodied, firstLength, KeyFirst, Plain as Primitive-only, Holds as Held, Bytes as AllBytes}
-use Rattle.meaning.specs.Enough.{Plain, Holds, Shaped, Ascends}
-use Rattle.meaning.specs.Trees.{Long, Below, Sound, Rules}
-use Rattle.meaning.specs.Formed.{Exactly, Formed, Bytes, Stored}
+use Rattle.meaning.proofs.Enough.{Plain, Holds, Shaped, Ascends}
+use Rattle.meaning.proofs.Trees.{Long, Below, Sound, Rules}
+use Rattle.meaning.proofs.Formed.{Exactly, Formed, Bytes, Stored}
 
 rises : (top last : ℕ) (os : List ℕ) → Rising top last os → (i : ℕ) → suc i < length os → getD os i 0 ≤ getD os (suc i) 0
 rises top last [] r i h = absurd (omega arith)

@@ -3,14 +3,13 @@ use mathlib.Core.List.{List, [], _∷_, map as each}
 use mathlib.Core.Bool.{Bool, true, false, cond, _&&_}
 use Prim.Native.Nat.{ℕ, zero, suc, _+_, _-_, _*_, _/_, _^_}
 use lib.Dec.{ltb, leb, eqb}
-use lib.ListN.{length}
 use Rattle.std.specs.declared.option.Option.{Option}
 use Rattle.std.specs.declared.option.Option.the-variants.{Some, None}
 use Rattle.std.specs.declared.result.Result.{Result}
-use Rattle.std.specs.declared.result.Result.the-variants.{Ok, Err}
+use Rattle.std.specs.declared.result.Result.the-variants.{Ok}
 use Rattle.meaning.specs.Forest.{Forest, none, tree, size}
 use Rattle.meaning.specs.Model.{Column, Code, Word, Variable, bits, words, variable, fixedSizeBinary, structs, lists, largeLists, fixedSizeLists, maps, int32, int64, float32, float64, date32, time64, micros, nanos, utf8, largeUtf8, binaries, largeBinary}
-use Rattle.meaning.specs.Items.{Entry, column, Rest, BatchFault, Read, refused, _then_, give, exactly, byte, flag, number, limited, text, little}
+use Rattle.meaning.specs.Items.{column, BatchFault, Read, refused, _then_, give, exactly, byte, flag, number, limited, text, little}
 
 -- the length that a holder asks of a child
 pub data Need : Type 0 where

@@ -1,22 +1,20 @@
 -- The counter's hooks: each after hook adds a float column's NaNs under the field's id.
 use mathlib.Core.Path.{_≡_}
-use mathlib.Core.Bool.{Bool, true, cond}
-use mathlib.Core.List.{List, [], _∷_}
+use mathlib.Core.Bool.{true, cond}
 use Prim.Native.Nat.{ℕ, _+_}
 use lib.Dec.{leb}
 use lib.IntN.{ℤ}
 use lib.ListN.{length}
 use Rattle.std.specs.declared.option.Option.{Option}
 use Rattle.std.specs.declared.option.Option.the-variants.{Some, None}
-use Rattle.std.specs.declared.result.Result.{Result}
 use Rattle.std.specs.declared.result.Result.the-variants.{Ok, Err}
 use Rattle.meaning.specs.Forest.{Forest}
 use Rattle.meaning.specs.Model.{Model, Field}
 use Rattle.meaning.specs.Access.{Pick, Own, fault}
 use Rattle.meaning.specs.Counts.{float?, nans, reached}
 use Rattle.meaning.specs.Law.{Table, Answer, has, added, adding}
-use Rattle.meaning.specs.Formed.{Formed}
-use Rattle.meaning.specs.Walk.{Step, ret, refuse, Role, Hooks, fieldAt, missing, visitsStruct}
+use Rattle.meaning.specs.Keeps.{Keeps}
+use Rattle.meaning.specs.Walk.{Step, ret, refuse, Hooks, fieldAt, missing, visitsStruct}
 use Rattle.meaning.specs.Ideal.{unless}
 
 -- column c is reached under field n, whose id this is: a column that is no float column adds nothing, and a 257th id is refused
@@ -48,4 +46,4 @@ counts m pick t = visitsStruct m pick (counter m) 0 t
 
 -- the walk answers and counts as adding what is reached does, from any table on
 abbrev pub Counted-law : Type 0
-Counted-law = (m : Model) → Formed (m .fields) → (pick : Pick) → Own m pick → (t : Table) → counts m pick t ≡ adding m t (reached m pick .0) (reached m pick .1)
+Counted-law = (m : Model) → Keeps m → (pick : Pick) → Own m pick → (t : Table) → counts m pick t ≡ adding m t (reached m pick .0) (reached m pick .1)

@@ -1,20 +1,18 @@
 -- What a count reaches, what of it the rows show, and the NaNs.
 -- (`anyOf` is the one of Rows: it stood here a second time, with the same clauses.)
-use mathlib.Core.Path.{_≡_}
 use mathlib.Core.List.{List, [], _∷_, _++_}
-use mathlib.Core.Bool.{Bool, true, false, cond, not, _&&_, _||_}
+use mathlib.Core.Bool.{Bool, true, false, cond, not, _&&_}
 use Prim.Native.Nat.{ℕ, _+_, _-_}
 use lib.Dec.{ltb, leb, eqb}
 use lib.IntN.{ℤ, pos, negsuc}
-use lib.ListN.{length, getD}
 use Rattle.std.specs.declared.option.Option.{Option}
 use Rattle.std.specs.declared.option.Option.the-variants.{Some, None}
 use Rattle.std.specs.declared.result.Result.{Result}
 use Rattle.std.specs.declared.result.Result.the-variants.{Ok, Err}
 use Rattle.meaning.specs.Forest.{Forest, none, tree, size}
-use Rattle.meaning.specs.Model.{Model, Column, Field, Shape, prim, struct, list, map, Word, float32, float64, int32, int64, date32, time64, micros, nanos, Code, bits, words, variable, fixedSizeBinary, structs, lists, largeLists, fixedSizeLists, maps, at}
+use Rattle.meaning.specs.Model.{Model, Field, Shape, prim, struct, list, map, float32, float64, int32, int64, date32, time64, micros, nanos, Code, bits, words, variable, fixedSizeBinary, structs, lists, largeLists, fixedSizeLists, maps, at}
 use Rattle.meaning.specs.Slots.{null, nan, nan32, nan64, span, from, upto}
-use Rattle.meaning.specs.Access.{Pick, StepFault, kids, partner}
+use Rattle.meaning.specs.Access.{Pick, StepFault, partner}
 use Rattle.meaning.specs.Rows.{Item, nothing, truth, whole, longer, single, doubled, raw, record′, sequence, mapping, Values, sameBy, anyOf}
 
 -- a column reached under an id, and which of its slots the rows show

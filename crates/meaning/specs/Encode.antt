@@ -1,14 +1,14 @@
 -- The one file of a batch.
 use mathlib.Core.List.{List, [], _∷_, _++_}
 use mathlib.Core.Bool.{Bool, true, false, cond}
-use Prim.Native.Nat.{ℕ, zero, suc, _+_, _-_, _*_, _/_, _%_, _^_}
+use Prim.Native.Nat.{ℕ, zero, suc, _+_, _-_, _/_, _%_, _^_}
 use lib.Dec.{ltb}
 use lib.IntN.{ℤ, pos, negsuc}
 use lib.ListN.{length}
 use Rattle.std.specs.declared.option.Option.{Option}
 use Rattle.std.specs.declared.option.Option.the-variants.{Some, None}
 use Rattle.meaning.specs.Forest.{Forest, none, tree, count}
-use Rattle.meaning.specs.Model.{Model, Field, Column, Shape, prim, struct, list, map, Primitive, boolean, int, long, float, double, date, time, timestamp, timestamptz, timestampNs, timestamptzNs, string, uuid, fixed, binary, Code, Word, Variable, bits, words, variable, fixedSizeBinary, structs, lists, largeLists, fixedSizeLists, maps, int32, int64, float32, float64, date32, time64, micros, nanos, utf8, largeUtf8, binaries, largeBinary}
+use Rattle.meaning.specs.Model.{Model, Field, Column, Shape, prim, struct, list, map, Primitive, boolean, int, long, float, double, date, time, timestamp, timestamptz, timestampNs, timestamptzNs, string, uuid, fixed, binary, Code, Variable, bits, words, variable, fixedSizeBinary, structs, lists, largeLists, fixedSizeLists, maps, int32, int64, float32, float64, date32, time64, micros, nanos, utf8, largeUtf8, binaries, largeBinary}
 
 -- groups of seven bits, lowest first, in the shortest form
 abbrev pub groups : ℕ → ℕ → List ℕ

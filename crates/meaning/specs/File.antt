@@ -1,13 +1,13 @@
 -- What a batch file means.
-use mathlib.Core.List.{List, [], _∷_}
-use mathlib.Core.Bool.{Bool, true, false, cond}
+use mathlib.Core.List.{List, []}
+use mathlib.Core.Bool.{false, cond}
 use Prim.Native.Nat.{ℕ}
 use lib.Dec.{ltb, eqb}
 use lib.ListN.{length}
 use Rattle.std.specs.declared.result.Result.{Result}
 use Rattle.std.specs.declared.result.Result.the-variants.{Ok, Err}
 use Rattle.meaning.specs.Model.{Model}
-use Rattle.meaning.specs.Items.{Entry, head, Rest, BatchFault, Read, refused, _then_, give, byte, number, limited}
+use Rattle.meaning.specs.Items.{head, Rest, BatchFault, Read, refused, _then_, give, byte, number, limited}
 use Rattle.meaning.specs.Schema.{fields}
 use Rattle.meaning.specs.Columns.{columns, exact}
 

@@ -4,7 +4,6 @@ use mathlib.Core.List.{List, [], _∷_, map as each}
 use mathlib.Core.Bool.{Bool, true, false, cond, not, _&&_}
 use Prim.Native.Nat.{ℕ, _+_, _*_, _/_}
 use lib.Dec.{ltb, leb, eqb}
-use lib.IntN.{ℤ}
 use lib.ListN.{length, getD}
 use Rattle.std.specs.declared.option.Option.{Option}
 use Rattle.std.specs.declared.option.Option.the-variants.{Some, None}
@@ -16,10 +15,8 @@ use Rattle.meaning.specs.Slots.{null, span, cut, upto}
 use Rattle.meaning.specs.Access.{Pick, Own, StepFault, fault, struct?, list?, map?}
 use Rattle.meaning.specs.Rows.{Item, nothing, truth, whole, longer, single, doubled, raw, record′, sequence, mapping, Values, item, joined, kept, sameBytes, sameWhole, same32, same64, rows}
 use Rattle.meaning.specs.Refusals.{accepts, some, sum, needs, second, converts}
-use Rattle.meaning.specs.Enough.{Enough}
-use Rattle.meaning.specs.Formed.{Formed, Stored, Filed}
-use Rattle.meaning.specs.Trees.{Rules}
-use Rattle.meaning.specs.Walk.{Step, ret, refuse, Role, Hooks, fieldAt, typeAt, missing, visitsStruct}
+use Rattle.meaning.specs.Keeps.{Keeps}
+use Rattle.meaning.specs.Walk.{Step, ret, refuse, Hooks, fieldAt, typeAt, missing, visitsStruct}
 
 -- a value whole: its item, and its parts, which stand below it
 abbrev pub Value : Type 0
@@ -239,8 +236,4 @@ pub record Converted (m : Model) (pick : Pick) (cells : ℕ) : Type 0 where
   pub exactly : (f : StepFault) → conversion m pick cells .0 ≡ Err f → converts m pick cells ≡ Err f
 
 abbrev pub Converted-law : Type 0
-Converted-law = (m : Model) → Enough m → Filed m → (pick : Pick) → Own m pick → (cells : ℕ) → Converted m pick cells
-
--- the same, from the rules tree by tree
-abbrev pub Converted-trees : Type 0
-Converted-trees = (m : Model) → Rules m → Formed (m .fields) → Stored (m .columns) → (pick : Pick) → Own m pick → (cells : ℕ) → Converted m pick cells
+Converted-law = (m : Model) → Keeps m → (pick : Pick) → Own m pick → (cells : ℕ) → Converted m pick cells

@@ -1,29 +1,29 @@
 -- The law of the counter: sums over calls in any order, and rows plus hidden slots.
 use mathlib.Core.Path.{_≡_}
 use mathlib.Core.List.{List, [], _∷_, _++_, map as each}
-use mathlib.Core.Bool.{Bool, true, false, cond, _&&_}
+use mathlib.Core.Bool.{Bool, true, false, cond}
 use Prim.Native.Nat.{ℕ, _+_, _-_, _^_, _≤_, min}
-use lib.Dec.{leb, eqb}
+use lib.Dec.{leb}
 use lib.IntN.{ℤ, pos, negsuc}
 use lib.ListN.{length}
 use Rattle.std.specs.declared.option.Option.{Option}
 use Rattle.std.specs.declared.option.Option.the-variants.{Some, None}
 use Rattle.std.specs.declared.result.Result.{Result}
 use Rattle.std.specs.declared.result.Result.the-variants.{Ok, Err}
-use Rattle.meaning.specs.Forest.{Forest, none, tree}
+use Rattle.meaning.specs.Forest.{none, tree}
 use Rattle.meaning.specs.Model.{Model, struct}
+use Rattle.meaning.specs.Keeps.{Keeps}
 use Rattle.meaning.specs.Access.{Pick, Own, StepFault, fault}
 use Rattle.meaning.specs.Rows.{Values, rows}
 use Rattle.meaning.specs.Refusals.{converts}
 use Rattle.meaning.specs.Counts.{Reach, reached, nans, hiddenNans, float?, nansIn, sameId}
 
 -- one `compute`: a batch that keeps the file's rules, and an accessor by its pick
-module _ (Keeps : Model → Type 0) where
-  pub record Call : Type 0 where
-    pub model : Model
-    pub keeps : Keeps model
-    pub pick : Pick
-    pub own : Own model pick
+pub record Call : Type 0 where
+  pub model : Model
+  pub keeps : Keeps model
+  pub pick : Pick
+  pub own : Own model pick
 
 pub record Sum : Type 0 where
   pub id : ℤ
@@ -98,47 +98,46 @@ pub data Reordered {X : Type 0} : List X → List X → Type 0 where
   swap : {x y : X} {xs : List X} → Reordered (x ∷ (y ∷ xs)) (y ∷ (x ∷ xs))
   trans : {xs ys zs : List X} → Reordered xs ys → Reordered ys zs → Reordered xs zs
 
-module _ (Keeps : Model → Type 0) where
-  abbrev pub computes : Call Keeps → Table → Answer × Table
-  computes c t = adding (c .model) t (reached (c .model) (c .pick) .0) (reached (c .model) (c .pick) .1)
+abbrev pub computes : Call → Table → Answer × Table
+computes c t = adding (c .model) t (reached (c .model) (c .pick) .0) (reached (c .model) (c .pick) .1)
 
-  abbrev pub after : List (Call Keeps) → Table → Table
-  after [] t = t
-  after (c ∷ cs) t = after cs (computes c t .1)
+abbrev pub after : List Call → Table → Table
+after [] t = t
+after (c ∷ cs) t = after cs (computes c t .1)
 
-  -- what the float columns reached add, call by call
-  abbrev pub allFloats : List (Call Keeps) → List (ℤ × ℕ)
-  allFloats [] = []
-  allFloats (c ∷ cs) = floats (c .model) (reached (c .model) (c .pick) .0) ++ allFloats cs
+-- what the float columns reached add, call by call
+abbrev pub allFloats : List Call → List (ℤ × ℕ)
+allFloats [] = []
+allFloats (c ∷ cs) = floats (c .model) (reached (c .model) (c .pick) .0) ++ allFloats cs
 
-  abbrev pub Few : List (Call Keeps) → Type 0
-  Few cs = distinct (allFloats cs) ≤ 256
+abbrev pub Few : List Call → Type 0
+Few cs = distinct (allFloats cs) ≤ 256
 
-  abbrev pub answers : List (Call Keeps) → Table → List (Call Keeps × Answer)
-  answers [] t = []
-  answers (c ∷ cs) t = (c, computes c t .0) ∷ answers cs (computes c t .1)
+abbrev pub answers : List Call → Table → List (Call × Answer)
+answers [] t = []
+answers (c ∷ cs) t = (c, computes c t .0) ∷ answers cs (computes c t .1)
 
-  -- for calls that reach at most 256 ids together: every count is a sum, another order gives the same table, and each call is answered by itself.
-  -- `few`: the calls reach as many ids in another order, so `sum` and `alone` hold of that order too
-  pub record Sums-law : Type 0 where
-    pub sum : (cs : List (Call Keeps)) → Few cs → (id : ℤ) → counted (after cs []) id ≡ cond (mentions id (allFloats cs)) (Some (held (sumOf id (allFloats cs)))) None
-    pub table : (cs ds : List (Call Keeps)) → Few cs → Reordered cs ds → after cs [] ≡ after ds []
-    pub alone : (cs : List (Call Keeps)) → Few cs → answers cs [] ≡ each (λ c. (c, answer (reached (c .model) (c .pick) .1))) cs
-    pub few : (cs ds : List (Call Keeps)) → Few cs → Reordered cs ds → Few ds
+-- for calls that reach at most 256 ids together: every count is a sum, another order gives the same table, and each call is answered by itself.
+-- `few`: the calls reach as many ids in another order, so `sum` and `alone` hold of that order too
+pub record Sums-law : Type 0 where
+  pub sum : (cs : List Call) → Few cs → (id : ℤ) → counted (after cs []) id ≡ cond (mentions id (allFloats cs)) (Some (held (sumOf id (allFloats cs)))) None
+  pub table : (cs ds : List Call) → Few cs → Reordered cs ds → after cs [] ≡ after ds []
+  pub alone : (cs : List Call) → Few cs → answers cs [] ≡ each (λ c. (c, answer (reached (c .model) (c .pick) .1))) cs
+  pub few : (cs ds : List Call) → Few cs → Reordered cs ds → Few ds
 
-  abbrev pub hidden : Call Keeps → ℤ → List Reach → ℕ
-  hidden c id [] = 0
-  hidden c id (r ∷ rs) = cond (same id (r .id)) (hiddenNans (c .model) r) 0 + hidden c id rs
+abbrev pub hidden : Call → ℤ → List Reach → ℕ
+hidden c id [] = 0
+hidden c id (r ∷ rs) = cond (same id (r .id)) (hiddenNans (c .model) r) 0 + hidden c id rs
 
-  abbrev pub orZero : Option ℕ → ℕ
-  orZero None = 0
-  orZero (Some n) = n
+abbrev pub orZero : Option ℕ → ℕ
+orZero None = 0
+orZero (Some n) = n
 
-  abbrev pub rowNans : ℤ → Call Keeps → Values → ℕ
-  rowNans id c none = 0
-  rowNans id c (tree x ps rest) = nansIn id (c .model .fields) struct ps + rowNans id c rest
+abbrev pub rowNans : ℤ → Call → Values → ℕ
+rowNans id c none = 0
+rowNans id c (tree x ps rest) = nansIn id (c .model .fields) struct ps + rowNans id c rest
 
-  pub record Rows-law : Type 0 where
-    pub accepted : (c : Call Keeps) (cells taken : ℕ) → converts (c .model) (c .pick) cells ≡ Ok taken → computes c [] .0 ≡ Ok tt
-    pub conserved : (c : Call Keeps) (cells taken : ℕ) → converts (c .model) (c .pick) cells ≡ Ok taken → (id : ℤ)
-        → orZero (counted (computes c [] .1) id) ≡ rowNans id c (rows (c .model) (c .pick)) + hidden c id (reached (c .model) (c .pick) .0)
+pub record Rows-law : Type 0 where
+  pub accepted : (c : Call) (cells taken : ℕ) → converts (c .model) (c .pick) cells ≡ Ok taken → computes c [] .0 ≡ Ok tt
+  pub conserved : (c : Call) (cells taken : ℕ) → converts (c .model) (c .pick) cells ≡ Ok taken → (id : ℤ)
+      → orZero (counted (computes c [] .1) id) ≡ rowNans id c (rows (c .model) (c .pick)) + hidden c id (reached (c .model) (c .pick) .0)

@@ -1,11 +1,11 @@
 -- A batch: what a file means, apart from how it is stored.
-use mathlib.Core.List.{List, [], _∷_}
-use mathlib.Core.Bool.{Bool, true, false, cond}
-use Prim.Native.Nat.{ℕ, zero, suc, _+_}
+use mathlib.Core.List.{List, []}
+use mathlib.Core.Bool.{Bool}
+use Prim.Native.Nat.{ℕ, zero, suc}
 use lib.IntN.{ℤ}
 use Rattle.std.specs.declared.option.Option.{Option}
 use Rattle.std.specs.declared.option.Option.the-variants.{Some, None}
-use Rattle.meaning.specs.Forest.{Forest, none, tree, find}
+use Rattle.meaning.specs.Forest.{Forest, none, find}
 
 pub data Primitive : Type 0 where
   boolean : Primitive

@@ -1,14 +1,11 @@
 -- The lines that the program prints, as bytes.
 use mathlib.Core.List.{List, [], _∷_, _++_}
-use mathlib.Core.Bool.{Bool, true, false, cond}
-use Prim.Native.Nat.{ℕ, zero, suc, _+_, _-_, _*_, _/_, _%_, _^_}
-use lib.Dec.{ltb, leb, eqb}
-use lib.IntN.{ℤ, pos, negsuc}
-use lib.ListN.{length}
+use mathlib.Core.Bool.{Bool, true, false}
+use Prim.Native.Nat.{ℕ, _+_}
 use lib.Chars.{codes}
 use Rattle.std.specs.declared.result.Result.{Result}
 use Rattle.std.specs.declared.result.Result.the-variants.{Ok, Err}
-use Rattle.meaning.specs.Forest.{Forest, none, tree}
+use Rattle.meaning.specs.Forest.{none, tree}
 use Rattle.meaning.specs.Model.{Model}
 use Rattle.meaning.specs.Items.{BatchFault}
 use Rattle.meaning.specs.Text.{decimal, integer, hex, bytes, batchFaultLine, stepFaultLine}
@@ -16,8 +13,8 @@ use Rattle.meaning.specs.File.{decode}
 use Rattle.meaning.specs.Access.{Pick, StepFault}
 use Rattle.meaning.specs.Rows.{Item, nothing, truth, whole, longer, single, doubled, raw, record′, sequence, mapping, Values, rows}
 use Rattle.meaning.specs.Refusals.{converts}
-use Rattle.meaning.specs.Counts.{Reach, reached}
-use Rattle.meaning.specs.Law.{Sum, Table, adding}
+use Rattle.meaning.specs.Counts.{reached}
+use Rattle.meaning.specs.Law.{Table, adding}
 
 -- what stands between two parts: at the first nothing, in a map a colon before each value, else a comma
 abbrev between : Bool → Bool → Bool → List ℕ

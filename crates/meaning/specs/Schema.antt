@@ -3,11 +3,9 @@ use mathlib.Core.List.{List, [], _∷_}
 use mathlib.Core.Bool.{Bool, true, false, cond, _&&_, _||_}
 use Prim.Native.Nat.{ℕ, zero, suc, _+_, _-_}
 use lib.Dec.{ltb, leb, eqb}
-use Rattle.std.specs.declared.result.Result.{Result}
-use Rattle.std.specs.declared.result.Result.the-variants.{Ok, Err}
 use Rattle.meaning.specs.Forest.{Forest, none, tree, size}
 use Rattle.meaning.specs.Model.{Field, Shape, prim, struct, list, map, Primitive, boolean, int, long, float, double, date, time, timestamp, timestamptz, timestampNs, timestamptzNs, string, uuid, fixed, binary}
-use Rattle.meaning.specs.Items.{Entry, field, Rest, Read, refused, _then_, give, exactly, byte, flag, number, limited, text, little, signed}
+use Rattle.meaning.specs.Items.{field, Read, refused, _then_, give, exactly, byte, flag, number, limited, text, little, signed}
 
 -- how a type code goes on
 pub data Kind : Type 0 where

@@ -1,14 +1,13 @@
 -- What a column says at a slot: the Arrow columnar format, and IEEE 754 for NaN.
 use mathlib.Core.List.{List, [], _∷_, map}
-use mathlib.Core.Bool.{Bool, true, false, cond, not, _&&_, _||_}
+use mathlib.Core.Bool.{Bool, false, cond, not, _&&_}
 use Prim.Native.Nat.{ℕ, zero, suc, _+_, _-_, _*_, _/_, _%_, _^_}
-use lib.Dec.{ltb, leb, eqb}
-use lib.ListN.{length, getD, take, drop}
+use lib.Dec.{ltb, eqb}
+use lib.ListN.{getD, take, drop}
 use lib.IntN.{ℤ, pos, negsuc}
 use Rattle.std.specs.declared.option.Option.{Option}
 use Rattle.std.specs.declared.option.Option.the-variants.{Some, None}
-use Rattle.meaning.specs.Forest.{Forest, none, tree, numbers}
-use Rattle.meaning.specs.Model.{Model, Column, Code, Word, int32, int64, float32, float64, date32, time64, micros, nanos, bits, words, variable, fixedSizeBinary, structs, lists, largeLists, fixedSizeLists, maps}
+use Rattle.meaning.specs.Model.{Column, Code, Word, int32, int64, float32, float64, date32, time64, micros, nanos, bits, words, variable, fixedSizeBinary, structs, lists, largeLists, fixedSizeLists, maps}
 
 -- bits run from bit 0 of the first byte
 abbrev pub bit : List ℕ → ℕ → Bool

@@ -1,12 +1,10 @@
-ghost use Prim.Native.Nat.{ℕ};
-ghost use Rattle.meaning.specs.Access.{Own, Pick};
-ghost use Rattle.meaning.specs.Ideal.{Converted};
+ghost use Rattle.meaning.specs.Access.{Own};
+ghost use Rattle.meaning.specs.Ideal.{Converted-law};
 ghost use Rattle.meaning.specs.Match.{byId, byName};
 ghost use Rattle.meaning.specs.Model.{Model};
 ghost use Rattle.meaning.specs.Counter.{Counted-law};
 ghost use Rattle.meaning.specs.Accepts.{Accepts-law};
 ghost use Rattle.meaning.specs.Law.{Sums-law, Rows-law};
-ghost use Rattle.meaning.specs.Keeps.{Keeps};
 
 // What is accepted is exactly the encodings of the batches that keep the rules.
 pub fn accepts_stand() -> u8
@@ -17,21 +15,21 @@ pub fn accepts_stand() -> u8
 
 // The sums of any calls, in any order.
 pub fn sums_stand() -> u8
-    ensures { λ _. ⌜ Sums-law Keeps ⌝ }
+    ensures { λ _. ⌜ Sums-law ⌝ }
 {
     0
 }
 
 // The count of a batch that keeps the rules is what its rows show and what they hide.
 pub fn rows_stand() -> u8
-    ensures { λ _. ⌜ Rows-law Keeps ⌝ }
+    ensures { λ _. ⌜ Rows-law ⌝ }
 {
     0
 }
 
 // The converter's walk gives the rows of a batch that keeps the rules, takes the cells that `converts` says, and refuses as it does.
 pub fn conversion_stands() -> u8
-    ensures { λ _. ⌜ ((m : Model) → Keeps m → (pick : Pick) → Own m pick → (cells : ℕ) → Converted m pick cells) ⌝ }
+    ensures { λ _. ⌜ Converted-law ⌝ }
 {
     0
 }

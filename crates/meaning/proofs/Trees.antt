@@ -3,7 +3,7 @@ use mathlib.Core.Path.{_≡_}
 use Prim.Native.Nat.{ℕ, _/_, _≤_}
 use Rattle.meaning.specs.Forest.{Forest, none, tree, size}
 use Rattle.meaning.specs.Model.{Model, Column, Code, bits, words, variable, fixedSizeBinary, structs, lists, largeLists, fixedSizeLists, maps}
-use Rattle.meaning.specs.Enough.{Shaped, Ascends}
+use Rattle.meaning.proofs.Enough.{Shaped, Ascends}
 
 -- columns side by side have this length
 abbrev pub Long : ℕ → Forest Column → Type 0

@@ -6,12 +6,11 @@ use Prim.Native.Nat.{ℕ, zero, suc, _+_}
 use lib.IntN.{pos, negsuc}
 use Rattle.std.specs.declared.option.Option.{Option}
 use Rattle.std.specs.declared.option.Option.the-variants.{Some, None}
-use Rattle.std.specs.declared.result.Result.{Result}
 use Rattle.std.specs.declared.result.Result.the-variants.{Ok, Err}
-use Rattle.meaning.specs.Forest.{Forest, none, tree}
+use Rattle.meaning.specs.Forest.{none, tree}
 use Rattle.meaning.specs.Model.{Model, Column, Field, Shape, prim, struct, list, map, int, float, Code, words, structs, lists, fixedSizeLists, maps, int32, float32}
-use Rattle.meaning.specs.Access.{Pick, StepFault, fault}
-use Rattle.meaning.specs.Rows.{Item, nothing, whole, single, record′, sequence, mapping, Values, literal, sameKey}
+use Rattle.meaning.specs.Access.{Pick, fault}
+use Rattle.meaning.specs.Rows.{nothing, whole, single, record′, sequence, mapping, Values, literal, sameKey}
 use Rattle.meaning.specs.Refusals.{converts}
 use Rattle.meaning.specs.Counts.{reached}
 use Rattle.meaning.specs.Ideal.{Value, alike, fieldStep, primitiveStep, structStep, listStep, mapStep, conversion}

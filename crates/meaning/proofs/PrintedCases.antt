@@ -1,6 +1,5 @@
 use mathlib.Core.Path.{_≡_, refl}
-use mathlib.Core.List.{List, [], _∷_}
-use Prim.Native.Nat.{ℕ}
+use mathlib.Core.List.{[], _∷_}
 use Rattle.meaning.specs.Match.{byId}
 use Rattle.meaning.specs.Print.{printed}
 

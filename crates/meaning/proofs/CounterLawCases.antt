@@ -3,12 +3,14 @@ use mathlib.Core.Path.{_≡_, refl, subst}
 use mathlib.Core.List.{List, [], _∷_}
 use mathlib.Core.Bool.{true, false}
 use Prim.Native.Nat.{ℕ, suc, zero}
-use lib.Dec.{lit≤}
+use native.Mathlib.Omega.{arith}
+use lib.Dec.{lit≤, lit<}
 use lib.IntN.{ℤ, pos, negsuc}
 use Rattle.std.specs.declared.option.Option.the-variants.{Some, None}
 use Rattle.std.specs.declared.result.Result.the-variants.{Err}
 use Rattle.meaning.specs.Forest.{none, tree}
 use Rattle.meaning.specs.Model.{Model, prim, float, words, float32}
+use Rattle.meaning.specs.Keeps.{Keeps, InRange}
 use Rattle.meaning.specs.Access.{Pick, Own, fault, among, kids}
 use Rattle.meaning.specs.Law.{Call, computes, after, counted, Few}
 
@@ -33,27 +35,43 @@ own id zero (suc zero) k h = let e : _≡_ {A = ℕ} 1 k = cc in subst (λ (n : 
 own id zero (suc (suc n)) k h = cc
 own id (suc c) n k h = cc
 
-abbrev call : ℤ → Call (λ _. Unit {0})
-call id = record { model = small id; keeps = tt; pick = firstOnly; own = own id }
+keeps : (id : ℤ) → InRange id → Keeps (small id)
+keeps id r = record {
+  rows = omega arith;
+  fewFields = omega arith;
+  fieldLevels = omega arith;
+  fields = (r, omega arith, (tt, refl), tt, tt);
+  fewColumns = omega arith;
+  columnLevels = omega arith;
+  columns = (omega arith, tt, omega arith, tt, (refl, omega arith, refl, refl), tt, tt);
+  lengths = (refl, tt);
+  small = lit≤ tt;
+}
+
+abbrev call : (id : ℤ) → InRange id → Call
+call id r = record { model = small id; keeps = keeps id r; pick = firstOnly; own = own id }
 
 nothing : (id : ℤ) → Own (small id) (λ c n. None)
 nothing id c f k h = cc
 
-abbrev refused : Call (λ _. Unit {0})
-refused = record { model = small (pos 3); keeps = tt; pick = λ c n. None; own = nothing (pos 3) }
+seven : InRange (pos 7)
+seven = lit< tt
+
+abbrev refused : Call
+refused = record { model = small (pos 3); keeps = keeps (pos 3) (lit< tt); pick = λ c n. None; own = nothing (pos 3) }
 
 -- 7, -2, 7 again, and a call that picks no column
-abbrev calls : List (Call (λ _. Unit {0}))
-calls = call (pos 7) ∷ call (negsuc 1) ∷ refused ∷ call (pos 7) ∷ []
+abbrev calls : List Call
+calls = call (pos 7) seven ∷ call (negsuc 1) (lit< tt) ∷ refused ∷ call (pos 7) seven ∷ []
 
-calls-few : Few (λ _. Unit {0}) calls
+calls-few : Few calls
 calls-few = lit≤ tt
 
-calls-table : after (λ _. Unit {0}) calls [] ≡ record { id = negsuc 1; count = 1 } ∷ record { id = pos 7; count = 2 } ∷ []
+calls-table : after calls [] ≡ record { id = negsuc 1; count = 1 } ∷ record { id = pos 7; count = 2 } ∷ []
 calls-table = refl
 
-calls-absent : counted (after (λ _. Unit {0}) calls []) (pos 3) ≡ None
+calls-absent : counted (after calls []) (pos 3) ≡ None
 calls-absent = refl
 
-refused-answer : computes (λ _. Unit {0}) refused [] .0 ≡ Err (fault 11 0 1)
+refused-answer : computes refused [] .0 ≡ Err (fault 11 0 1)
 refused-answer = refl

@@ -1,11 +1,9 @@
 -- What a file's schema and bytes keep, beside the rules of Enough: types hold exactly the fields that they name, and bytes are bytes.
-use mathlib.Core.Path.{_≡_}
 use mathlib.Core.List.{List, [], _∷_}
 use Prim.Native.Nat.{ℕ, _<_}
-use Rattle.std.specs.declared.result.Result.the-variants.{Ok}
 use Rattle.meaning.specs.Forest.{Forest, none, tree}
 use Rattle.meaning.specs.Model.{Model, Column, Field, Shape, prim, struct, list, map, at}
-use Rattle.meaning.specs.Enough.{Plain}
+use Rattle.meaning.proofs.Enough.{Plain}
 
 -- a primitive type holds no field, a list type one, and a map type a key field of a primitive type and a value field
 abbrev pub Exactly : Shape → Forest Field → Type 0
