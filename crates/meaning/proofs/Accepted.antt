@@ -15,10 +15,10 @@ use Rattle.std.proofs.shelf.Tests.{and-parts, eqb-true, not-false}
 use Rattle.meaning.specs.Forest.{Forest, none, tree, size}
 use Rattle.meaning.specs.Model.{Model, Column, Field, Shape, prim, struct, list, map, Primitive, boolean, int, long, float, double, date, time, timestamp, timestamptz, timestampNs, timestamptzNs, string, uuid, fixed, binary, Code, bits, words, variable, fixedSizeBinary, structs, lists, largeLists, fixedSizeLists, maps, int32, int64, float32, float64, date32, time64, micros, nanos, utf8, largeUtf8, binaries, largeBinary, at}
 use Rattle.meaning.specs.Slots.{null, nan, nanBy}
-use Rattle.meaning.specs.Access.{Pick, StepFault, fault, kids, partner, struct?, list?, map?, isStruct, isList, isMap, orNone}
-use Rattle.meaning.specs.Rows.{item, itemBy, nothing, orZero}
-use Rattle.meaning.specs.Refusals.{codeOf, is, or, accepts, own, takes, fieldHook, chain, check}
-use Rattle.meaning.specs.Counts.{nanItem}
+use Rattle.meaning.specs.Access.{Pick, StepFault, fault, kids, partner, struct?, list?, map?, isStruct, isList, isMap, orRefused}
+use Rattle.meaning.specs.Rows.{orZero, nullLiteral, literalBy, literalAt}
+use Rattle.meaning.specs.Refusals.{codeOf, is, or, accepts, takes, fieldHook, chain, ownHook, checkFields}
+use Rattle.meaning.specs.Counts.{nanLiteral}
 use Rattle.meaning.proofs.Enough.{Holds}
 
 -- a code by its number holds no NaN, or holds those of its width
@@ -93,7 +93,7 @@ or-is : (k : Code) (n l : ℕ) (body : List ℕ) (i : ℕ) → (n ≡ 4 → ⊥)
 or-is k n l body i a b c d e = ⊎-elim (no-nan-is k n 0 body i a b) (no-nan-is k l 0 body i c d) (grind arith)
 
 -- a primitive's slots hold what the column says
-prim-nan : (p : Primitive) (x : Column) (i : ℕ) → accepts p (x .code) ≡ true → nanBy (x .code) (x .body) i ≡ nanItem (itemBy (prim p) x i)
+prim-nan : (p : Primitive) (x : Column) (i : ℕ) → accepts p (x .code) ≡ true → nanBy (x .code) (x .body) i ≡ nanLiteral (literalBy (prim p) x i)
 prim-nan boolean x i e = no-nan-is (x .code) 1 0 (x .body) i (λ h. omega arith) (λ h. omega arith) e
 prim-nan int x i e = no-nan-is (x .code) 2 0 (x .body) i (λ h. omega arith) (λ h. omega arith) e
 prim-nan long x i e = no-nan-is (x .code) 3 0 (x .body) i (λ h. omega arith) (λ h. omega arith) e
@@ -145,7 +145,7 @@ map-nan (fixedSizeLists s) body i e = refl
 map-nan maps body i e = refl
 
 -- a null slot holds none
-null-nan : (u v : Bool) (s : Shape) (x : Column) (i : ℕ) → v ≡ nanItem (itemBy s x i) → (not u && v) ≡ nanItem (cond u nothing (itemBy s x i))
+null-nan : (u v : Bool) (s : Shape) (x : Column) (i : ℕ) → v ≡ nanLiteral (literalBy s x i) → (not u && v) ≡ nanLiteral (cond u nullLiteral (literalBy s x i))
 null-nan true v s x i e = refl
 null-nan false v s x i e = e
 
@@ -161,7 +161,7 @@ ok-miss false r e t h = refl
 ok-is : (x y : ℕ) → _≡_ {A = Result ℕ StepFault} (Ok x) (Ok y) → x ≡ y
 ok-is x y e = cc
 
-ok-some : (o : Option ℕ) (e : StepFault) (p : ℕ) → orNone o e ≡ Ok p → o ≡ Some p
+ok-some : (o : Option ℕ) (e : StepFault) (p : ℕ) → orRefused o e ≡ Ok p → o ≡ Some p
 ok-some None e p h = cc
 ok-some (Some k) e p h = cc
 
@@ -182,7 +182,7 @@ module _ (m : Model) (pick : Pick) (cells : ℕ) where
   pub partner-kind : (s : Shape) (up c n p : ℕ) → partner m pick s up c n ≡ Ok p → Kind s c n × (p ≡ target s up c n)
   partner-kind (prim k) up c n p e = absurd (let z : _≡_ {A = ℕ} 0 1 = cc in omega arith)
   partner-kind struct up c n p e =
-      let h : (struct? m c ≡ true) × (orNone (pick c n) (fault 11 c n) ≡ Ok p) = ok-test (struct? m c) (orNone (pick c n) (fault 11 c n)) (fault 10 c n) p e in
+      let h : (struct? m c ≡ true) × (orRefused (pick c n) (fault 11 c n) ≡ Ok p) = ok-test (struct? m c) (orRefused (pick c n) (fault 11 c n)) (fault 10 c n) p e in
       let k : pick c n ≡ Some p = ok-some (pick c n) (fault 11 c n) p (h .1) in
       ((h .0, k ∙ ap (λ (o : Option ℕ). Some (orZero o)) (sym k)), sym (ap orZero k))
   partner-kind list up c n p e =
@@ -199,25 +199,25 @@ module _ (m : Model) (pick : Pick) (cells : ℕ) where
   pub record Step (f : Field) (below rest : Forest Field) (s : Shape) (up n c taken t p : ℕ) : Type 0 where
     pub met : partner m pick s up c n ≡ Ok p
     pub t₁ : ℕ
-    pub inner : check m pick cells below (f .shape) n (n + 1) p taken ≡ Ok t₁
+    pub inner : checkFields m pick cells below (f .shape) n (n + 1) p taken ≡ Ok t₁
     pub t₂ : ℕ
-    pub mine : own m pick cells (f .shape) below n p t₁ ≡ Ok t₂
+    pub mine : ownHook m pick cells (f .shape) below n p t₁ ≡ Ok t₂
     pub t₃ : ℕ
-    pub after : check m pick cells rest s up (n + 1 + size below) c t₃ ≡ Ok t
+    pub after : checkFields m pick cells rest s up (n + 1 + size below) c t₃ ≡ Ok t
 
-  pub step : (f : Field) (below rest : Forest Field) (s : Shape) (up n c taken t : ℕ) → check m pick cells (tree f below rest) s up n c taken ≡ Ok t
+  pub step : (f : Field) (below rest : Forest Field) (s : Shape) (up n c taken t : ℕ) → checkFields m pick cells (tree f below rest) s up n c taken ≡ Ok t
       → Kind s c n × Step f below rest s up n c taken t (target s up c n)
   step f below rest s up n c taken t e =
       let a = chain-ok (partner m pick s up c n) _ t e in
-      let b = chain-ok (check m pick cells below (f .shape) n (n + 1) (a .0) taken) _ t (a .2) in
-      let d = chain-ok (own m pick cells (f .shape) below n (a .0) (b .0)) _ t (b .2) in
+      let b = chain-ok (checkFields m pick cells below (f .shape) n (n + 1) (a .0) taken) _ t (a .2) in
+      let d = chain-ok (ownHook m pick cells (f .shape) below n (a .0) (b .0)) _ t (b .2) in
       let g = chain-ok (fieldHook m pick cells s f n c (a .0) (d .0)) _ t (d .2) in
       let k = partner-kind s up c n (a .0) (a .1) in
       (k .0, subst (λ (p : ℕ). Step f below rest s up n c taken t p) (k .1) (record { met = a .1; t₁ = b .0; inner = b .1; t₂ = d .0; mine = d .1; t₃ = g .0; after = g .2 }))
 
   -- a NaN of the column is a NaN of the value
-  kind-nan : (s : Shape) (below : Forest Field) (n p taken t₁ t₂ : ℕ) → Holds s below → check m pick cells below s n (n + 1) p taken ≡ Ok t₁ → own m pick cells s below n p t₁ ≡ Ok t₂
-      → (i : ℕ) → nanBy (at m p .code) (at m p .body) i ≡ nanItem (itemBy s (at m p) i)
+  kind-nan : (s : Shape) (below : Forest Field) (n p taken t₁ t₂ : ℕ) → Holds s below → checkFields m pick cells below s n (n + 1) p taken ≡ Ok t₁ → ownHook m pick cells s below n p t₁ ≡ Ok t₂
+      → (i : ℕ) → nanBy (at m p .code) (at m p .body) i ≡ nanLiteral (literalBy s (at m p) i)
   kind-nan (prim k) below n p taken t₁ t₂ h c o i = prim-nan k (at m p) i (ok-test (accepts k (at m p .code)) (takes m pick cells n p (at m p .len) t₁) (fault 14 p n) t₂ o .0)
   kind-nan struct none n p taken t₁ t₂ h c o i = struct-nan (at m p .code) (at m p .body) i (not-false (struct? m p) (ok-miss (not (struct? m p)) _ (fault 14 p n) t₂ o))
   kind-nan struct (tree f below rest) n p taken t₁ t₂ h c o i = struct-nan (at m p .code) (at m p .body) i (step f below rest struct n (n + 1) p taken t₁ c .0 .0)
@@ -226,6 +226,6 @@ module _ (m : Model) (pick : Pick) (cells : ℕ) where
   kind-nan map none n p taken t₁ t₂ h c o i = absurd h
   kind-nan map (tree f below rest) n p taken t₁ t₂ h c o i = map-nan (at m p .code) (at m p .body) i (step f below rest map n (n + 1) p taken t₁ c .0)
 
-  pub item-nan : (s : Shape) (below : Forest Field) (n p taken t₁ t₂ : ℕ) → Holds s below → check m pick cells below s n (n + 1) p taken ≡ Ok t₁ → own m pick cells s below n p t₁ ≡ Ok t₂
-      → (i : ℕ) → nan (at m p) i ≡ nanItem (item s (at m p) i)
+  pub item-nan : (s : Shape) (below : Forest Field) (n p taken t₁ t₂ : ℕ) → Holds s below → checkFields m pick cells below s n (n + 1) p taken ≡ Ok t₁ → ownHook m pick cells s below n p t₁ ≡ Ok t₂
+      → (i : ℕ) → nan (at m p) i ≡ nanLiteral (literalAt s (at m p) i)
   item-nan s below n p taken t₁ t₂ h c o i = null-nan (null (at m p) i) (nanBy (at m p .code) (at m p .body) i) s (at m p) i (kind-nan s below n p taken t₁ t₂ h c o i)

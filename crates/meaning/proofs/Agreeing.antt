@@ -12,34 +12,34 @@ use Rattle.std.specs.declared.result.Result.the-variants.{Ok, Err}
 use Rattle.meaning.specs.Model.{Model}
 use Rattle.meaning.specs.Access.{Pick, StepFault, fault}
 use Rattle.meaning.specs.Refusals.{takes, chain}
-use Rattle.meaning.specs.Walk.{Step, ret, carry, missing}
-use Rattle.meaning.specs.Ideal.{Value, given, unless, sought, taking}
+use Rattle.meaning.specs.Walk.{Step, ret, missing, bindResult}
+use Rattle.meaning.specs.Ideal.{Value, sought, taking, refuseIf, orRefuse}
 
 abbrev pub Agrees : {X : Type 0} → Result X StepFault × ℕ → Result ℕ StepFault → X → Type 0
 Agrees x (Ok t) v = x ≡ (Ok v, t)
 Agrees x (Err e) v = x .0 ≡ Err e
 
 -- a test that refuses, and one that cannot
-pub agrees-unless : {X : Type 0} (b : Bool) (e : StepFault) (k : Step ℕ X) (s : ℕ) (r : Result ℕ StepFault) (v : X) → (b ≡ false → Agrees (k s) r v) → Agrees (unless b e k s) (cond b (Err e) r) v
+pub agrees-unless : {X : Type 0} (b : Bool) (e : StepFault) (k : Step ℕ X) (s : ℕ) (r : Result ℕ StepFault) (v : X) → (b ≡ false → Agrees (k s) r v) → Agrees (refuseIf b e k s) (cond b (Err e) r) v
 agrees-unless true e k s r v h = refl
 agrees-unless false e k s r v h = h refl
 
-pub agrees-retest : {X : Type 0} (b d : Bool) (e : StepFault) (k : Step ℕ X) (s : ℕ) (r : Result ℕ StepFault) (v : X) → b ≡ d → (d ≡ false → Agrees (k s) r v) → Agrees (unless b e k s) (cond d (Err e) r) v
-agrees-retest b d e k s r v h a = subst (λ (x : Bool). Agrees (unless x e k s) (cond d (Err e) r) v) (sym h) (agrees-unless d e k s r v a)
+pub agrees-retest : {X : Type 0} (b d : Bool) (e : StepFault) (k : Step ℕ X) (s : ℕ) (r : Result ℕ StepFault) (v : X) → b ≡ d → (d ≡ false → Agrees (k s) r v) → Agrees (refuseIf b e k s) (cond d (Err e) r) v
+agrees-retest b d e k s r v h a = subst (λ (x : Bool). Agrees (refuseIf x e k s) (cond d (Err e) r) v) (sym h) (agrees-unless d e k s r v a)
 
-pub agrees-test : {X : Type 0} (b : Bool) (e : StepFault) (k : Step ℕ X) (s : ℕ) (r : Result ℕ StepFault) (v : X) → Agrees (k s) r v → Agrees (unless (not b) e k s) (cond b r (Err e)) v
+pub agrees-test : {X : Type 0} (b : Bool) (e : StepFault) (k : Step ℕ X) (s : ℕ) (r : Result ℕ StepFault) (v : X) → Agrees (k s) r v → Agrees (refuseIf (not b) e k s) (cond b r (Err e)) v
 agrees-test true e k s r v h = h
 agrees-test false e k s r v h = refl
 
-pub agrees-pass : {X : Type 0} (b : Bool) (e : StepFault) (k : Step ℕ X) (s : ℕ) (r : Result ℕ StepFault) (v : X) → b ≡ false → Agrees (k s) r v → Agrees (unless b e k s) r v
-agrees-pass b e k s r v h a = subst (λ (c : Bool). Agrees (unless c e k s) r v) (sym h) a
+pub agrees-pass : {X : Type 0} (b : Bool) (e : StepFault) (k : Step ℕ X) (s : ℕ) (r : Result ℕ StepFault) (v : X) → b ≡ false → Agrees (k s) r v → Agrees (refuseIf b e k s) r v
+agrees-pass b e k s r v h a = subst (λ (c : Bool). Agrees (refuseIf c e k s) r v) (sym h) a
 
-pub agrees-given : {X Y : Type 0} (o : Option X) (x : X) (e : StepFault) (k : X → Step ℕ Y) (s : ℕ) (r : Result ℕ StepFault) (v : Y) → o ≡ Some x → Agrees (k x s) r v → Agrees (given o e k s) r v
-agrees-given o x e k s r v h a = subst (λ p. Agrees (given p e k s) r v) (sym h) a
+pub agrees-given : {X Y : Type 0} (o : Option X) (x : X) (e : StepFault) (k : X → Step ℕ Y) (s : ℕ) (r : Result ℕ StepFault) (v : Y) → o ≡ Some x → Agrees (k x s) r v → Agrees (orRefuse o e k s) r v
+agrees-given o x e k s r v h a = subst (λ p. Agrees (orRefuse p e k s) r v) (sym h) a
 
 pub agrees-sought : {X Y : Type 0} (m : Model) (o : Option X) (x : X) (n c : ℕ) (k : X → Step ℕ Y) (s : ℕ) (r : Result ℕ StepFault) (v : Y) → o ≡ Some x → missing m c ≡ false → Agrees (k x s) r v
     → Agrees (sought m o n c k s) r v
-agrees-sought m o x n c k s r v h i a = agrees-given o x (fault 9 c n) (λ x. unless (missing m c) (fault 9 c n) (k x)) s r v h (agrees-pass (missing m c) (fault 9 c n) (k x) s r v i a)
+agrees-sought m o x n c k s r v h i a = agrees-given o x (fault 9 c n) (λ x. refuseIf (missing m c) (fault 9 c n) (k x)) s r v h (agrees-pass (missing m c) (fault 9 c n) (k x) s r v i a)
 
 -- the same values under another name
 pub agrees-as : {X : Type 0} (x : Result X StepFault × ℕ) (r : Result ℕ StepFault) (v w : X) → v ≡ w → Agrees x r v → Agrees x r w
@@ -55,13 +55,13 @@ module _ (m : Model) (pick : Pick) (cells : ℕ) where
       go false = refl
 
   -- one step after another
-  refused-then : {X Y : Type 0} (x : Result X StepFault × ℕ) (k : X → Step ℕ Y) (e : StepFault) → x .0 ≡ Err e → carry k x .0 ≡ Err e
+  refused-then : {X Y : Type 0} (x : Result X StepFault × ℕ) (k : X → Step ℕ Y) (e : StepFault) → x .0 ≡ Err e → bindResult k x .0 ≡ Err e
   refused-then (Ok a, s) k e h = absurd (let z : _≡_ {A = ℕ} 0 1 = cc in omega arith)
   refused-then (Err f, s) k e h = cc
 
   pub agrees-then : {X Y : Type 0} (x : Result X StepFault × ℕ) (r : Result ℕ StepFault) (v : X) (k : X → Step ℕ Y) (f : ℕ → Result ℕ StepFault) (w : Y)
-      → Agrees x r v → ((t : ℕ) → r ≡ Ok t → Agrees (k v t) (f t) w) → Agrees (carry k x) (chain m pick cells r f) w
-  agrees-then x (Ok t) v k f w a h = subst (λ y. Agrees (carry k y) (f t) w) (sym a) (h t refl)
+      → Agrees x r v → ((t : ℕ) → r ≡ Ok t → Agrees (k v t) (f t) w) → Agrees (bindResult k x) (chain m pick cells r f) w
+  agrees-then x (Ok t) v k f w a h = subst (λ y. Agrees (bindResult k y) (f t) w) (sym a) (h t refl)
   agrees-then x (Err e) v k f w a h = refused-then x k e a
 
   pub chain-chain : (r : Result ℕ StepFault) (f g : ℕ → Result ℕ StepFault) → chain m pick cells (chain m pick cells r f) g ≡ chain m pick cells r (λ t. chain m pick cells (f t) g)
@@ -69,6 +69,6 @@ module _ (m : Model) (pick : Pick) (cells : ℕ) where
   chain-chain (Err e) f g = refl
 
   -- a value in front of others
-  pub agrees-push : {X : Type 0} (x : Result (List X) StepFault × ℕ) (r : Result ℕ StepFault) (v : X) (vs : List X) → Agrees x r vs → Agrees (carry (λ ts. ret (v ∷ ts)) x) r (v ∷ vs)
-  agrees-push x (Ok t) v vs a = ap (λ y. carry (λ ts. ret (v ∷ ts)) y) a
+  pub agrees-push : {X : Type 0} (x : Result (List X) StepFault × ℕ) (r : Result ℕ StepFault) (v : X) (vs : List X) → Agrees x r vs → Agrees (bindResult (λ ts. ret (v ∷ ts)) x) r (v ∷ vs)
+  agrees-push x (Ok t) v vs a = ap (λ y. bindResult (λ ts. ret (v ∷ ts)) y) a
   agrees-push x (Err e) v vs a = refused-then x (λ ts. ret (v ∷ ts)) e a

@@ -11,9 +11,9 @@ use Rattle.std.proofs.shelf.Ways.{tells}
 use Rattle.std.proofs.shelf.Tests.{ltb-true, ltb-false, ne-eqb}
 use Rattle.meaning.specs.Model.{Column, Primitive, boolean, int, long, float, double, date, time, timestamp, timestamptz, timestampNs, timestamptzNs, string, uuid, fixed, binary}
 use Rattle.meaning.specs.Slots.{little, stored, signed}
-use Rattle.meaning.specs.Rows.{literal, sameKey, sameWhole}
+use Rattle.meaning.specs.Rows.{sameKey, sameWhole, primitiveLiteral}
 use Rattle.meaning.proofs.Formed.{Bytes}
-use Rattle.meaning.specs.Ideal.{alike}
+use Rattle.meaning.specs.Ideal.{sameLiteral}
 
 -- what w bytes can hold
 abbrev top : ℕ → ℕ
@@ -56,7 +56,7 @@ module _ (x : Column) (h : Bytes (x .body)) (i j : ℕ) where
   broad : sameWhole (signed 8 (stored 8 (x .body) i)) (signed 8 (stored 8 (x .body) j)) ≡ eqb (stored 8 (x .body) i) (stored 8 (x .body) j)
   broad = same-signed8 (stored 8 (x .body) i) (stored 8 (x .body) j) (stored-bound 8 (x .body) i h) (stored-bound 8 (x .body) j h)
 
-  pub alike-key : (p : Primitive) → alike (literal p x i) (literal p x j) ≡ sameKey p x i j
+  pub alike-key : (p : Primitive) → sameLiteral (primitiveLiteral p x i) (primitiveLiteral p x j) ≡ sameKey p x i j
   alike-key boolean = refl
   alike-key int = narrow
   alike-key long = broad

@@ -7,7 +7,7 @@ use Rattle.std.specs.declared.result.Result.the-variants.{Ok, Err}
 use Rattle.meaning.specs.Forest.{Forest, none, tree, size}
 use Rattle.meaning.specs.Model.{Model, Field, Shape, prim, struct, list, map}
 use Rattle.meaning.specs.Access.{Pick, StepFault, partner}
-use Rattle.meaning.specs.Walk.{Step, ret, carry, bind, Role, structField, listElement, mapKey, mapValue, role, Hooks, close, finish, walk, visits, visitsStruct}
+use Rattle.meaning.specs.Walk.{Step, ret, bind, Role, structField, listElement, mapKey, mapValue, role, Hooks, close, finish, walk, bindResult, visitType, visitStruct}
 use Rattle.meaning.proofs.Alongside.{Ties, Both, Vals, Nothing, Alongside}
 
 module _ {S S′ T T′ : Type 0} (k : Ties S S′ T T′) where
@@ -19,7 +19,7 @@ module _ {S S′ T T′ : Type 0} (k : Ties S S′ T T′) where
   both-from V s t (Err f, u) (Err g, u′) e b = b
 
   both-then : {X X′ Y Y′ : Type 0} (V : S → X → X′ → Type 0) (W : S → Y → Y′ → Type 0) (s : S) (o : Result X StepFault × S) (o′ : Result X′ StepFault × S′) (f : X → Step S Y) (f′ : X′ → Step S′ Y′)
-      → Both k V s o o′ → ((t : S) (t′ : S′) (x : X) (x′ : X′) → k .Ext s t → k .Rel t t′ → V t x x′ → Both k W t (f x t) (f′ x′ t′)) → Both k W s (carry f o) (carry f′ o′)
+      → Both k V s o o′ → ((t : S) (t′ : S′) (x : X) (x′ : X′) → k .Ext s t → k .Rel t t′ → V t x x′ → Both k W t (f x t) (f′ x′ t′)) → Both k W s (bindResult f o) (bindResult f′ o′)
   both-then V W s (Ok x, t) (Ok x′, t′) f f′ b h = both-from W s t (f x t) (f′ x′ t′) (b .0) (h t t′ x x′ (b .0) (b .1) (b .2))
   both-then V W s (Ok x, t) (Err g, t′) f f′ b h = absurd b
   both-then V W s (Err e, t) (Ok x′, t′) f f′ b h = absurd b
@@ -76,8 +76,8 @@ module _ {S S′ T T′ : Type 0} (k : Ties S S′ T T′) where
               → ((p : ℕ) (t : S) (t′ : S′) → k .Rel t t′ → Both k (Vals k) t (walk m pick h below (f .shape) n (n + 1) p t) (walk m pick h′ below (f .shape) n (n + 1) p t′))
               → ((t : S) (t′ : S′) → k .Rel t t′ → Both k (Vals k) t (walk m pick h rest sh up (n + 1 + size below) c t) (walk m pick h′ rest sh up (n + 1 + size below) c t′))
               → Both k (Vals k) s
-              (carry (λ p. bind (h .before (role sh up n) n p) (λ _. bind (bind (walk m pick h below (f .shape) n (n + 1) p) (close h (f .shape) n p)) (λ x. bind (finish h (role sh up n) n p x) (λ y. bind (walk m pick h rest sh up (n + 1 + size below) c) (λ ys. ret (y ∷ ys)))))) (o, s))
-              (carry (λ p. bind (h′ .before (role sh up n) n p) (λ _. bind (bind (walk m pick h′ below (f .shape) n (n + 1) p) (close h′ (f .shape) n p)) (λ x. bind (finish h′ (role sh up n) n p x) (λ y. bind (walk m pick h′ rest sh up (n + 1 + size below) c) (λ ys. ret (y ∷ ys)))))) (o, s′))
+              (bindResult (λ p. bind (h .before (role sh up n) n p) (λ _. bind (bind (walk m pick h below (f .shape) n (n + 1) p) (close h (f .shape) n p)) (λ x. bind (finish h (role sh up n) n p x) (λ y. bind (walk m pick h rest sh up (n + 1 + size below) c) (λ ys. ret (y ∷ ys)))))) (o, s))
+              (bindResult (λ p. bind (h′ .before (role sh up n) n p) (λ _. bind (bind (walk m pick h′ below (f .shape) n (n + 1) p) (close h′ (f .shape) n p)) (λ x. bind (finish h′ (role sh up n) n p x) (λ y. bind (walk m pick h′ rest sh up (n + 1 + size below) c) (λ ys. ret (y ∷ ys)))))) (o, s′))
           go (Err e) wb wr = (refl, k .stops s s′ r)
           go (Ok p) wb wr =
               both-then (Nothing k) (Vals k) s (h .before (role sh up n) n p s) (h′ .before (role sh up n) n p s′) _ _ (a .before (role sh up n) n p s s′ r) (λ t t′ _ _ e q _.
@@ -89,10 +89,10 @@ module _ {S S′ T T′ : Type 0} (k : Ties S S′ T T′) where
               (k .still i, j, (k .keeps z i y y′ g d, l))))))
 
       -- the type of a field, and the schema's struct
-      pub both-visits : (sh : Shape) (below : Forest Field) (n c : ℕ) (s : S) (s′ : S′) → k .Rel s s′ → Both k (k .Val) s (visits m pick h sh below n c s) (visits m pick h′ sh below n c s′)
+      pub both-visits : (sh : Shape) (below : Forest Field) (n c : ℕ) (s : S) (s′ : S′) → k .Rel s s′ → Both k (k .Val) s (visitType m pick h sh below n c s) (visitType m pick h′ sh below n c s′)
       both-visits sh below n c s s′ r =
           both-then (Vals k) (k .Val) s (walk m pick h below sh n (n + 1) c s) (walk m pick h′ below sh n (n + 1) c s′) (close h sh n c) (close h′ sh n c) (both-walk below sh n (n + 1) c s s′ r)
           (λ t t′ xs xs′ _ q v. both-close sh n c xs xs′ t t′ q v)
 
-      pub both-struct : (c : ℕ) (s : S) (s′ : S′) → k .Rel s s′ → Both k (k .Val) s (visitsStruct m pick h c s) (visitsStruct m pick h′ c s′)
+      pub both-struct : (c : ℕ) (s : S) (s′ : S′) → k .Rel s s′ → Both k (k .Val) s (visitStruct m pick h c s) (visitStruct m pick h′ c s′)
       both-struct c s s′ r = both-visits struct (m .fields) 0 c s s′ r

@@ -11,7 +11,7 @@ use Rattle.meaning.specs.Rows.{rows}
 use Rattle.meaning.specs.Refusals.{converts}
 use Rattle.meaning.proofs.Enough.{Enough}
 use Rattle.meaning.proofs.Formed.{Filed}
-use Rattle.meaning.specs.Walk.{Hooks, visitsStruct}
+use Rattle.meaning.specs.Walk.{Hooks, visitStruct}
 use Rattle.meaning.specs.Ideal.{Value, listed, converter, conversion}
 use Rattle.meaning.proofs.Alongside.{Ties, Both, Alongside}
 use Rattle.meaning.proofs.Converting.{converted}
@@ -26,9 +26,9 @@ module _ {S T : Type 0} (k : Ties S ℕ T (List Value)) where
 
   module _ (m : Model) (keeps : Enough m) (filed : Filed m) (pick : Pick) (mine : Own m pick) (cells : ℕ) (h : Hooks S T) (a : Alongside k h (converter m cells)) (s : S) (r : k .Rel s 0) where
     -- accepted: a result that stands for the rows, in a state that goes with the cells taken
-    pub carried : (t : ℕ) → converts m pick cells ≡ Ok t → Both k (k .Val) s (visitsStruct m pick h 0 s) (Ok (listed (rows m pick)), t)
-    carried t e = subst (λ (o : Result (List Value) StepFault × ℕ). Both k (k .Val) s (visitsStruct m pick h 0 s) o) (converted m keeps filed pick mine cells .accepted t e) (both-struct k h (converter m cells) a m pick 0 s 0 r)
+    pub carried : (t : ℕ) → converts m pick cells ≡ Ok t → Both k (k .Val) s (visitStruct m pick h 0 s) (Ok (listed (rows m pick)), t)
+    carried t e = subst (λ (o : Result (List Value) StepFault × ℕ). Both k (k .Val) s (visitStruct m pick h 0 s) o) (converted m keeps filed pick mine cells .accepted t e) (both-struct k h (converter m cells) a m pick 0 s 0 r)
 
-    pub carried-refusal : (f : StepFault) → converts m pick cells ≡ Err f → visitsStruct m pick h 0 s .0 ≡ Err f
+    pub carried-refusal : (f : StepFault) → converts m pick cells ≡ Err f → visitStruct m pick h 0 s .0 ≡ Err f
     carried-refusal f e =
-        both-refused (k .Val) s (visitsStruct m pick h 0 s) (conversion m pick cells) f (both-struct k h (converter m cells) a m pick 0 s 0 r) (converted m keeps filed pick mine cells .refused f e)
+        both-refused (k .Val) s (visitStruct m pick h 0 s) (conversion m pick cells) f (both-struct k h (converter m cells) a m pick 0 s 0 r) (converted m keeps filed pick mine cells .refused f e)

@@ -12,11 +12,11 @@ use Rattle.std.specs.declared.result.Result.the-variants.{Ok}
 use Rattle.std.proofs.shelf.Tests.{eq-eqb, ne-eqb}
 use Rattle.meaning.specs.Forest.{Forest, none, tree, size}
 use Rattle.meaning.specs.Model.{Model, Field, Shape, prim, struct, list, map, at}
-use Rattle.meaning.specs.Slots.{null, nan, span, cut, from, upto}
+use Rattle.meaning.specs.Slots.{null, nan, span, from, upto, spanSlots}
 use Rattle.meaning.specs.Access.{Pick, Own, kids, partner}
-use Rattle.meaning.specs.Rows.{Item, Values, item, sameBy, anyOf, kept, joined, orZero, parts}
-use Rattle.meaning.specs.Refusals.{check}
-use Rattle.meaning.specs.Counts.{sameId, within, reaches, nanItem, forEach, forPairs, nansIn}
+use Rattle.meaning.specs.Rows.{Values, sameBy, anyOf, kept, joined, orZero, parts, Literal, literalAt}
+use Rattle.meaning.specs.Refusals.{checkFields}
+use Rattle.meaning.specs.Counts.{sameId, reaches, nansIn, nanLiteral, shownWithin, sumElements, sumPairs}
 use Rattle.meaning.proofs.Enough.{Plain, Holds, Shaped, Enough}
 use Rattle.meaning.proofs.Keys.{same-alike}
 use Rattle.meaning.proofs.Totals.{sumTo, total, anyTo, any-upto, sum-ext, sum-none, sum-add, sum-cond, Cuts, hit, sum-cuts}
@@ -42,12 +42,12 @@ nans-plain id (tree f below rest) list vs h = absurd h
 nans-plain id (tree f below rest) map vs h = absurd h
 
 -- the elements of a list and the pairs of a map, one after another
-each-joined : {X : Type 0} (F : Item → Values → ℕ) (x : X → Item) (ps : X → Values) (js : List X) → forEach F (joined (λ j. tree (x j) (ps j) none) js) ≡ total (λ j. F (x j) (ps j)) js
+each-joined : {X : Type 0} (F : Literal → Values → ℕ) (x : X → Literal) (ps : X → Values) (js : List X) → sumElements F (joined (λ j. tree (x j) (ps j) none) js) ≡ total (λ j. F (x j) (ps j)) js
 each-joined F x ps [] = refl
 each-joined F x ps (j ∷ js) = ap (λ k. F (x j) (ps j) + k) (each-joined F x ps js)
 
-pairs-joined : {X : Type 0} (F G : Item → Values → ℕ) (x y : X → Item) (ps qs : X → Values) (js : List X)
-    → forPairs F G (joined (λ j. tree (x j) (ps j) (tree (y j) (qs j) none)) js) ≡ total (λ j. F (x j) (ps j) + G (y j) (qs j)) js
+pairs-joined : {X : Type 0} (F G : Literal → Values → ℕ) (x y : X → Literal) (ps qs : X → Values) (js : List X)
+    → sumPairs F G (joined (λ j. tree (x j) (ps j) (tree (y j) (qs j) none)) js) ≡ total (λ j. F (x j) (ps j) + G (y j) (qs j)) js
 pairs-joined F G x y ps qs [] = refl
 pairs-joined F G x y ps qs (j ∷ js) = omega (arith, pairs-joined F G x y ps qs js)
 
@@ -93,7 +93,7 @@ module _ (m : Model) (pick : Pick) (id : ℤ) where
 
   -- column p says what the values of field f say
   abbrev Faithful : Field → ℕ → Type 0
-  Faithful f p = (i : ℕ) → nan (at m p) i ≡ nanItem (item (f .shape) (at m p) i)
+  Faithful f p = (i : ℕ) → nan (at m p) i ≡ nanLiteral (literalAt (f .shape) (at m p) i)
 
   abbrev lo : ℕ → ℕ → ℕ
   lo c i = span (at m c) i .0
@@ -108,7 +108,7 @@ module _ (m : Model) (pick : Pick) (id : ℤ) where
   -- what slot j of column p counts for, as a value of field f
   abbrev worth : Field → Forest Field → ℕ → ℕ → ℕ → ℕ
   worth f below n p j =
-      cond (sameId id (f .id) && nanItem (item (f .shape) (at m p) j)) 1 0
+      cond (sameId id (f .id) && nanLiteral (literalAt (f .shape) (at m p) j)) 1 0
       + nansIn id below (f .shape) (cond (null (at m p) j) none (parts m pick below (f .shape) (n + 1) p j))
 
   -- a field's column: its own reach and those below it
@@ -119,7 +119,7 @@ module _ (m : Model) (pick : Pick) (id : ℤ) where
     field-slot j =
         let ps : Values = parts m pick below (f .shape) (n + 1) p j in
         ap (λ (v : Bool). cond (live p shown j) (nansIn id below (f .shape) ps) 0 + cond (sameId id (f .id)) (cond (v && shown j) 1 0) 0) (e j)
-        ∙ slot-sum (sameId id (f .id)) (null (at m p) j) (shown j) (nanItem (item (f .shape) (at m p) j)) ps (nansIn id below (f .shape)) (nans-none id below (f .shape))
+        ∙ slot-sum (sameId id (f .id)) (null (at m p) j) (shown j) (nanLiteral (literalAt (f .shape) (at m p) j)) ps (nansIn id below (f .shape)) (nans-none id below (f .shape))
 
     field-sum : inParts below (f .shape) (n + 1) p shown + ownNans f p shown ≡ sumTo (at m p .len) (λ j. cond (shown j) (worth f below n p j) 0)
     field-sum =
@@ -128,11 +128,11 @@ module _ (m : Model) (pick : Pick) (id : ℤ) where
 
   -- a slot that is cut, as the counts say it and as a sum over the slots that cut
   module _ (c : ℕ) (shown : ℕ → Bool) (fits : ℕ → ℕ → ℕ → Bool) where
-    within-any : (j : ℕ) → within m pick c shown fits j ≡ anyTo (at m c .len) (λ i. hit (live c shown i) (lo c i) (hi c i) (fits (lo c i) (hi c i) j) j)
+    within-any : (j : ℕ) → shownWithin m pick c shown fits j ≡ anyTo (at m c .len) (λ i. hit (live c shown i) (lo c i) (hi c i) (fits (lo c i) (hi c i) j) j)
     within-any j = any-ext _ _ (λ i. sym (and-assoc (shown i) (not (null (at m c) i)) _)) (upto (at m c .len)) ∙ any-upto _ (at m c .len)
 
     within-sum : (p : ℕ) (f : ℕ → ℕ) → Cut c p
-        → sumTo (at m p .len) (λ j. cond (within m pick c shown fits j) (f j) 0) ≡ sumTo (at m c .len) (λ i. cond (live c shown i) (total (λ j. cond (fits (lo c i) (hi c i) j) (f j) 0) (cut (at m c) i)) 0)
+        → sumTo (at m p .len) (λ j. cond (shownWithin m pick c shown fits j) (f j) 0) ≡ sumTo (at m c .len) (λ i. cond (live c shown i) (total (λ j. cond (fits (lo c i) (hi c i) j) (f j) 0) (spanSlots (at m c) i)) 0)
     within-sum p f k =
         sum-ext (at m p .len) _ _ (λ j h. ap (λ (b : Bool). cond b (f j) 0) (within-any j))
         ∙ sum-cuts (at m c .len) (at m p .len) (lo c) (hi c) k (live c shown) fits f
@@ -166,21 +166,21 @@ module _ (m : Model) (pick : Pick) (id : ℤ) where
     abbrev child : ℕ
     child = getD (kids m c) 0 0
 
-    list-parts : (i : ℕ) → total (worth f below n child) (cut (at m c) i) ≡ nansIn id (tree f below rest) list (parts m pick (tree f below rest) list n c i)
+    list-parts : (i : ℕ) → total (worth f below n child) (spanSlots (at m c) i) ≡ nansIn id (tree f below rest) list (parts m pick (tree f below rest) list n c i)
     list-parts i =
-        sym (each-joined (λ x ps. cond (sameId id (f .id) && nanItem x) 1 0 + nansIn id below (f .shape) ps) (λ j. item (f .shape) (at m child) j)
-        (λ j. cond (null (at m child) j) none (parts m pick below (f .shape) (n + 1) child j)) (cut (at m c) i))
+        sym (each-joined (λ x ps. cond (sameId id (f .id) && nanLiteral x) 1 0 + nansIn id below (f .shape) ps) (λ j. literalAt (f .shape) (at m child) j)
+        (λ j. cond (null (at m child) j) none (parts m pick below (f .shape) (n + 1) child j)) (spanSlots (at m c) i))
 
-    list-sum : inParts below (f .shape) (n + 1) child (within m pick c shown any?) + ownNans f child (within m pick c shown any?) ≡ inParts (tree f below rest) list n c shown
+    list-sum : inParts below (f .shape) (n + 1) child (shownWithin m pick c shown any?) + ownNans f child (shownWithin m pick c shown any?) ≡ inParts (tree f below rest) list n c shown
     list-sum =
-        field-sum f below n child (within m pick c shown any?) e
+        field-sum f below n child (shownWithin m pick c shown any?) e
         ∙ (within-sum c shown any? child (worth f below n child) k
         ∙ sum-ext (at m c .len) _ _ (λ i h. ap (λ x. cond (live c shown i) x 0) (list-parts i)))
 
-    list-good : partner m pick list up c n ≡ Ok child → Conserved below (f .shape) n (n + 1) child (within m pick c shown any?) → Conserved (tree f below rest) list up n c shown
+    list-good : partner m pick list up c n ≡ Ok child → Conserved below (f .shape) n (n + 1) child (shownWithin m pick c shown any?) → Conserved (tree f below rest) list up n c shown
     list-good met gb =
         good-under m id (partner m pick list up c n) _ child _ _ met
-        (good-at m id _ _ _ _ _ (omega arith) list-sum (good-then m id _ _ _ _ _ _ gb (good-one m id pick f n child (within m pick c shown any?))))
+        (good-at m id _ _ _ _ _ (omega arith) list-sum (good-then m id _ _ _ _ _ _ gb (good-one m id pick f n child (shownWithin m pick c shown any?))))
 
   -- a map, whose shown keys are the first and whose shown values the last of their class in a span that a shown slot cuts
   abbrev first? : (ℕ → ℕ → Bool) → ℕ → ℕ → ℕ → Bool
@@ -203,26 +203,26 @@ module _ (m : Model) (pick : Pick) (id : ℤ) where
     alike = sameBy (f .shape) (at m keyed)
 
     abbrev keys : ℕ → Bool
-    keys = within m pick c shown (first? alike)
+    keys = shownWithin m pick c shown (first? alike)
 
     abbrev vals : ℕ → Bool
-    vals = within m pick c shown (last? alike)
+    vals = shownWithin m pick c shown (last? alike)
 
     -- a key has no parts
-    key-worth : (j : ℕ) → cond (sameId id (f .id) && nanItem (item (f .shape) (at m keyed) j)) 1 0 + nansIn id below (f .shape) none ≡ worth f below n keyed j
+    key-worth : (j : ℕ) → cond (sameId id (f .id) && nanLiteral (literalAt (f .shape) (at m keyed) j)) 1 0 + nansIn id below (f .shape) none ≡ worth f below n keyed j
     key-worth j =
-        ap (λ k. cond (sameId id (f .id) && nanItem (item (f .shape) (at m keyed) j)) 1 0 + k)
+        ap (λ k. cond (sameId id (f .id) && nanLiteral (literalAt (f .shape) (at m keyed) j)) 1 0 + k)
         (nans-none id below (f .shape) ∙ sym (nans-plain id below (f .shape) (cond (null (at m keyed) j) none (parts m pick below (f .shape) (n + 1) keyed j)) plain))
 
     -- the pairs of one slot
     map-parts : (i : ℕ)
         → nansIn id (tree f below (tree g under′ rest)) map (parts m pick (tree f below (tree g under′ rest)) map n c i)
-        ≡ total (λ (kv : ℕ × ℕ). worth f below n keyed (kv .0) + worth g under′ later valued (kv .1)) (kept alike (cut (at m c) i))
+        ≡ total (λ (kv : ℕ × ℕ). worth f below n keyed (kv .0) + worth g under′ later valued (kv .1)) (kept alike (spanSlots (at m c) i))
     map-parts i =
-        pairs-joined (λ x ps. cond (sameId id (f .id) && nanItem x) 1 0 + nansIn id below (f .shape) ps) (λ x ps. cond (sameId id (g .id) && nanItem x) 1 0 + nansIn id under′ (g .shape) ps)
-        (λ (kv : ℕ × ℕ). item (f .shape) (at m keyed) (kv .0)) (λ (kv : ℕ × ℕ). item (g .shape) (at m valued) (kv .1)) (λ kv. none)
-        (λ (kv : ℕ × ℕ). cond (null (at m valued) (kv .1)) none (parts m pick under′ (g .shape) (later + 1) valued (kv .1))) (kept alike (cut (at m c) i))
-        ∙ total-ext _ _ (λ (kv : ℕ × ℕ). ap (λ k. k + worth g under′ later valued (kv .1)) (key-worth (kv .0))) (kept alike (cut (at m c) i))
+        pairs-joined (λ x ps. cond (sameId id (f .id) && nanLiteral x) 1 0 + nansIn id below (f .shape) ps) (λ x ps. cond (sameId id (g .id) && nanLiteral x) 1 0 + nansIn id under′ (g .shape) ps)
+        (λ (kv : ℕ × ℕ). literalAt (f .shape) (at m keyed) (kv .0)) (λ (kv : ℕ × ℕ). literalAt (g .shape) (at m valued) (kv .1)) (λ kv. none)
+        (λ (kv : ℕ × ℕ). cond (null (at m valued) (kv .1)) none (parts m pick under′ (g .shape) (later + 1) valued (kv .1))) (kept alike (spanSlots (at m c) i))
+        ∙ total-ext _ _ (λ (kv : ℕ × ℕ). ap (λ k. k + worth g under′ later valued (kv .1)) (key-worth (kv .0))) (kept alike (spanSlots (at m c) i))
 
     module _ (e : Faithful f keyed) (d : Faithful g valued) (k : Cut c keyed) (l : Cut c valued) where
       map-sum : inParts below (f .shape) (n + 1) keyed keys + (ownNans f keyed keys + (inParts under′ (g .shape) (later + 1) valued vals + ownNans g valued vals)) ≡ inParts (tree f below (tree g under′ rest)) map n c shown
@@ -262,7 +262,7 @@ module _ (m : Model) (pick : Pick) (id : ℤ) (cells : ℕ) (keeps : Enough m) (
   value-column up c n k e = ap (λ (b : Bool). getD (kids m c) (cond b 0 1) 0) (ne-eqb (n + 1 + k) (up + 1) (λ h. omega arith))
 
   -- what is below a type at column c: no refusal, at most as many reaches as fields, and the shown NaNs are those of the parts
-  pub conserves : (fs : Forest Field) (s : Shape) (up n c : ℕ) (shown : ℕ → Bool) (taken t : ℕ) → Start s up n → Shaped fs → Holds s fs → check m pick cells fs s up n c taken ≡ Ok t
+  pub conserves : (fs : Forest Field) (s : Shape) (up n c : ℕ) (shown : ℕ → Bool) (taken t : ℕ) → Start s up n → Shaped fs → Holds s fs → checkFields m pick cells fs s up n c taken ≡ Ok t
       → Conserved m pick id fs s up n c shown
   conserves none s up n c shown taken t b sh ho e = good-at m id ([], None) 0 0 0 _ (omega arith) (sym (sum-none (at m c .len) _ (λ i h. cond-zero (live m pick id c shown i)))) (good-none m id 0)
   conserves (tree f below rest) (prim k) up n c shown taken t b sh ho e = absurd (step m pick cells f below rest (prim k) up n c taken t e .0)
@@ -282,7 +282,7 @@ module _ (m : Model) (pick : Pick) (id : ℤ) (cells : ℕ) (keeps : Enough m) (
       (item-nan m pick cells (f .shape) below n p taken (st .1 .t₁) (st .1 .t₂) (sh .0) (st .1 .inner) (st .1 .mine))
       (list-cuts (at m c .code) (at m c) (at m p .len) (st .0) (keeps .cutting c))
       (st .1 .met)
-      (conserves below (f .shape) n (n + 1) p (within m pick c shown (any? m pick id)) taken (st .1 .t₁) (start (f .shape) n) (sh .1) (sh .0) (st .1 .inner))
+      (conserves below (f .shape) n (n + 1) p (shownWithin m pick c shown (any? m pick id)) taken (st .1 .t₁) (start (f .shape) n) (sh .1) (sh .0) (st .1 .inner))
   conserves (tree f below none) map up n c shown taken t b sh ho e = absurd ho
   conserves (tree f below (tree g under′ rest)) map up n c shown taken t b sh ho e =
       let p : ℕ = getD (kids m c) 0 0 in
@@ -301,5 +301,5 @@ module _ (m : Model) (pick : Pick) (id : ℤ) (cells : ℕ) (keeps : Enough m) (
       (subst (λ l. Cuts (at m c .len) l (lo m pick id c) (hi m pick id c)) (sym (keeps .paired c (st .0))) cuts)
       (k .met)
       (w .met)
-      (conserves below (f .shape) n (n + 1) p (within m pick c shown (first? m pick id same)) taken (k .t₁) (start (f .shape) n) (sh .1) (sh .0) (k .inner))
-      (conserves under′ (g .shape) v (v + 1) q (within m pick c shown (last? m pick id same)) (k .t₃) (w .t₁) (start (g .shape) v) (sh .2 .1) (sh .2 .0) (w .inner))
+      (conserves below (f .shape) n (n + 1) p (shownWithin m pick c shown (first? m pick id same)) taken (k .t₁) (start (f .shape) n) (sh .1) (sh .0) (k .inner))
+      (conserves under′ (g .shape) v (v + 1) q (shownWithin m pick c shown (last? m pick id same)) (k .t₃) (w .t₁) (start (g .shape) v) (sh .2 .1) (sh .2 .0) (w .inner))

@@ -17,7 +17,7 @@ use Rattle.std.proofs.shelf.Tests.{cases-bool, eqb-true, eq-eqb, le-leb}
 use Rattle.meaning.specs.Model.{Model}
 use Rattle.meaning.specs.Access.{fault}
 use Rattle.meaning.specs.Counts.{Reach, sameId, float?, nans}
-use Rattle.meaning.specs.Law.{Table, below, held, added, counted, has, Answer, adding}
+use Rattle.meaning.specs.Law.{Table, below, added, Answer, saturated, countOf, hasId, addReaches}
 use Rattle.meaning.proofs.Nans.{reachSum, nans-dull}
 
 -- ids are in a line
@@ -65,9 +65,9 @@ above-join : (i j : ℤ) (t : Table) → below i j ≡ true → Above j t → Ab
 above-join i j [] e h = tt
 above-join i j (x ∷ xs) e h = (id-join i j (x .id) e (h .0), above-join i j xs e (h .1))
 
-absent : (i : ℤ) (t : Table) → Above i t → counted t i ≡ None
+absent : (i : ℤ) (t : Table) → Above i t → countOf t i ≡ None
 absent i [] h = refl
-absent i (e ∷ es) h = ap (λ (b : Bool). cond b (Some (e .count)) (counted es i)) (id-apart i (e .id) (h .0)) ∙ absent i es (h .1)
+absent i (e ∷ es) h = ap (λ (b : Bool). cond b (Some (e .count)) (countOf es i)) (id-apart i (e .id) (h .0)) ∙ absent i es (h .1)
 
 -- an entry added stays in line, and lengthens the table by one at most
 module _ (i : ℤ) (n : ℕ) where
@@ -76,7 +76,7 @@ module _ (i : ℤ) (n : ℕ) where
   above-added k (x ∷ xs) e h = pass (sameId i (x .id)) (below i (x .id)) (above-added k xs e (h .1))
     where
       pass : (b d : Bool) → Above k (added xs i n)
-          → Above k (cond b (record { id = i; count = held (x .count + n) } ∷ xs) (cond d (record { id = i; count = held n } ∷ (x ∷ xs)) (x ∷ added xs i n)))
+          → Above k (cond b (record { id = i; count = saturated (x .count + n) } ∷ xs) (cond d (record { id = i; count = saturated n } ∷ (x ∷ xs)) (x ∷ added xs i n)))
       pass true d r = (e, h .1)
       pass false true r = (e, h)
       pass false false r = (h .0, r)
@@ -86,7 +86,7 @@ module _ (i : ℤ) (n : ℕ) where
   sorted-added (x ∷ xs) h = pass (sameId i (x .id)) (below i (x .id)) refl refl (sorted-added xs (h .1))
     where
       pass : (b d : Bool) → sameId i (x .id) ≡ b → below i (x .id) ≡ d → Sorted (added xs i n)
-          → Sorted (cond b (record { id = i; count = held (x .count + n) } ∷ xs) (cond d (record { id = i; count = held n } ∷ (x ∷ xs)) (x ∷ added xs i n)))
+          → Sorted (cond b (record { id = i; count = saturated (x .count + n) } ∷ xs) (cond d (record { id = i; count = saturated n } ∷ (x ∷ xs)) (x ∷ added xs i n)))
       pass true d e f r = (subst (λ (j : ℤ). Above j xs) (sym (id-same i (x .id) e)) (h .0), h .1)
       pass false true e f r = ((f, above-join i (x .id) xs f (h .0)), h)
       pass false false e f r = (above-added (x .id) xs (id-above i (x .id) e f) (h .0), r)
@@ -96,7 +96,7 @@ module _ (i : ℤ) (n : ℕ) where
   length-added (x ∷ xs) = pass (sameId i (x .id)) (below i (x .id)) (length-added xs)
     where
       pass : (b d : Bool) → length (added xs i n) ≤ length xs + 1
-          → length (cond b (record { id = i; count = held (x .count + n) } ∷ xs) (cond d (record { id = i; count = held n } ∷ (x ∷ xs)) (x ∷ added xs i n))) ≤ length (x ∷ xs) + 1
+          → length (cond b (record { id = i; count = saturated (x .count + n) } ∷ xs) (cond d (record { id = i; count = saturated n } ∷ (x ∷ xs)) (x ∷ added xs i n))) ≤ length (x ∷ xs) + 1
       pass true d r = omega arith
       pass false true r = omega arith
       pass false false r = omega arith
@@ -112,11 +112,11 @@ some-cond false x o = refl
 
 module _ (i j : ℤ) (n : ℕ) where
   -- where i stands at the head, before it, and after it
-  at-head : (u w : Bool) (x : ℕ) (o : Option ℕ) → w ≡ u → orNought (cond u (Some (held (x + n))) o) ≡ cond u (held (x + n)) (orNought (cond w (Some x) o))
+  at-head : (u w : Bool) (x : ℕ) (o : Option ℕ) → w ≡ u → orNought (cond u (Some (saturated (x + n))) o) ≡ cond u (saturated (x + n)) (orNought (cond w (Some x) o))
   at-head true w x o e = refl
   at-head false w x o e = rw e refl
 
-  at-front : (u : Bool) (o r : Option ℕ) → o ≡ None → orNought (cond u (Some (held n)) r) ≡ cond u (held (orNought o + n)) (orNought r)
+  at-front : (u : Bool) (o r : Option ℕ) → o ≡ None → orNought (cond u (Some (saturated n)) r) ≡ cond u (saturated (orNought o + n)) (orNought r)
   at-front true o r e = rw (e, zero-add n) refl
   at-front false o r e = refl
 
@@ -130,23 +130,23 @@ module _ (i j : ℤ) (n : ℕ) where
       clash : true ≡ false → ⊥
       clash h = let z : _≡_ {A = ℕ} 0 1 = cc in omega arith
 
-  counted-added : (t : Table) → Sorted t → orNought (counted (added t i n) j) ≡ cond (sameId j i) (held (orNought (counted t i) + n)) (orNought (counted t j))
-  counted-added [] h = rw zero-add (some-cond (sameId j i) (held n) None)
+  counted-added : (t : Table) → Sorted t → orNought (countOf (added t i n) j) ≡ cond (sameId j i) (saturated (orNought (countOf t i) + n)) (orNought (countOf t j))
+  counted-added [] h = rw zero-add (some-cond (sameId j i) (saturated n) None)
   counted-added (x ∷ xs) h = pass (sameId i (x .id)) (below i (x .id)) refl refl (counted-added xs (h .1))
     where
-      pass : (b d : Bool) → sameId i (x .id) ≡ b → below i (x .id) ≡ d → orNought (counted (added xs i n) j) ≡ cond (sameId j i) (held (orNought (counted xs i) + n)) (orNought (counted xs j))
-          → orNought (counted (cond b (record { id = i; count = held (x .count + n) } ∷ xs) (cond d (record { id = i; count = held n } ∷ (x ∷ xs)) (x ∷ added xs i n))) j)
-          ≡ cond (sameId j i) (held (orNought (cond b (Some (x .count)) (counted xs i)) + n)) (orNought (counted (x ∷ xs) j))
-      pass true d e f r = at-head (sameId j i) (sameId j (x .id)) (x .count) (counted xs j) (ap (sameId j) (sym (id-same i (x .id) e)))
-      pass false true e f r = at-front (sameId j i) (counted xs i) (counted (x ∷ xs) j) (absent i xs (above-join i (x .id) xs f (h .0)))
-      pass false false e f r = at-back (sameId j i) (sameId j (x .id)) (x .count) (counted (added xs i n) j) (counted xs j) (held (orNought (counted xs i) + n)) (elsewhere (x .id) e) r
+      pass : (b d : Bool) → sameId i (x .id) ≡ b → below i (x .id) ≡ d → orNought (countOf (added xs i n) j) ≡ cond (sameId j i) (saturated (orNought (countOf xs i) + n)) (orNought (countOf xs j))
+          → orNought (countOf (cond b (record { id = i; count = saturated (x .count + n) } ∷ xs) (cond d (record { id = i; count = saturated n } ∷ (x ∷ xs)) (x ∷ added xs i n))) j)
+          ≡ cond (sameId j i) (saturated (orNought (cond b (Some (x .count)) (countOf xs i)) + n)) (orNought (countOf (x ∷ xs) j))
+      pass true d e f r = at-head (sameId j i) (sameId j (x .id)) (x .count) (countOf xs j) (ap (sameId j) (sym (id-same i (x .id) e)))
+      pass false true e f r = at-front (sameId j i) (countOf xs i) (countOf (x ∷ xs) j) (absent i xs (above-join i (x .id) xs f (h .0)))
+      pass false false e f r = at-back (sameId j i) (sameId j (x .id)) (x .count) (countOf (added xs i n) j) (countOf xs j) (saturated (orNought (countOf xs i) + n)) (elsewhere (x .id) e) r
 
   -- the same, where the sum does not reach the ceiling
-  counted-more : (t : Table) → Sorted t → orNought (counted t j) + cond (sameId j i) n 0 ≤ 2 ^ 64 - 1 → orNought (counted (added t i n) j) ≡ orNought (counted t j) + cond (sameId j i) n 0
+  counted-more : (t : Table) → Sorted t → orNought (countOf t j) + cond (sameId j i) n 0 ≤ 2 ^ 64 - 1 → orNought (countOf (added t i n) j) ≡ orNought (countOf t j) + cond (sameId j i) n 0
   counted-more t h b = counted-added t h ∙ pass (sameId j i) refl b
     where
-      pass : (u : Bool) → sameId j i ≡ u → orNought (counted t j) + cond u n 0 ≤ 2 ^ 64 - 1 → cond u (held (orNought (counted t i) + n)) (orNought (counted t j)) ≡ orNought (counted t j) + cond u n 0
-      pass true e b = ap (λ (a : ℤ). held (orNought (counted t a) + n)) (sym (id-same j i e)) ∙ omega arith
+      pass : (u : Bool) → sameId j i ≡ u → orNought (countOf t j) + cond u n 0 ≤ 2 ^ 64 - 1 → cond u (saturated (orNought (countOf t i) + n)) (orNought (countOf t j)) ≡ orNought (countOf t j) + cond u n 0
+      pass true e b = ap (λ (a : ℤ). saturated (orNought (countOf t a) + n)) (sym (id-same j i e)) ∙ omega arith
       pass false e b = omega arith
 
 cond-nought : (b : Bool) (x : ℕ) → x ≡ 0 → cond b x 0 ≡ 0
@@ -157,17 +157,17 @@ cond-nought false x e = refl
 module _ (m : Model) (id : ℤ) where
   pub record Counts (t : Table) (s : ℕ) (o : Answer × Table) : Type 0 where
     pub taken : o .0 ≡ Ok tt
-    pub counts : orNought (counted (o .1) id) ≡ orNought (counted t id) + s
+    pub counts : orNought (countOf (o .1) id) ≡ orNought (countOf t id) + s
 
   -- a float column is added, since the table has room; any other adds nothing
   float-step : (r : Reach) (rs : List Reach) (t : Table) (g : Bool) → let i : ℤ = r .id in let n : ℕ = nans m (r .column) in
-      g ≡ true → orNought (counted (added t i n) id) ≡ orNought (counted t id) + cond (sameId id i) n 0
-      → Counts (added t i n) (reachSum m id rs) (adding m (added t i n) rs None)
-      → Counts t (reachSum m id (r ∷ rs)) (cond g (adding m (added t i n) rs None) (Err (fault 22 (r .column) (r .field)), t))
+      g ≡ true → orNought (countOf (added t i n) id) ≡ orNought (countOf t id) + cond (sameId id i) n 0
+      → Counts (added t i n) (reachSum m id rs) (addReaches m (added t i n) rs None)
+      → Counts t (reachSum m id (r ∷ rs)) (cond g (addReaches m (added t i n) rs None) (Err (fault 22 (r .column) (r .field)), t))
   float-step r rs t true e c y = record { taken = y .taken; counts = omega (arith, c, y .counts) }
   float-step r rs t false e c y = absurd (let z : _≡_ {A = ℕ} 0 1 = cc in omega arith)
 
-  other-step : (r : Reach) (rs : List Reach) (t : Table) → float? m (r .column) ≡ false → Counts t (reachSum m id rs) (adding m t rs None) → Counts t (reachSum m id (r ∷ rs)) (adding m t rs None)
+  other-step : (r : Reach) (rs : List Reach) (t : Table) → float? m (r .column) ≡ false → Counts t (reachSum m id rs) (addReaches m t rs None) → Counts t (reachSum m id (r ∷ rs)) (addReaches m t rs None)
   other-step r rs t e y = record { taken = y .taken; counts = omega (arith, y .counts, cond-nought (sameId id (r .id)) (nans m (r .column)) (nans-dull m (r .column) e)) }
 
   room : (b : Bool) (l : ℕ) → l + 1 ≤ 256 → cond b true (leb (l + 1) 256) ≡ true
@@ -175,19 +175,19 @@ module _ (m : Model) (id : ℤ) where
   room false l h = le-leb (l + 1) 256 h
 
   either-step : (r : Reach) (rs : List Reach) (t : Table) (f : Bool) → float? m (r .column) ≡ f
-      → Counts t (reachSum m id (r ∷ rs)) (cond (cond (has t (r .id)) true (leb (length t + 1) 256)) (adding m (added t (r .id) (nans m (r .column))) rs None) (Err (fault 22 (r .column) (r .field)), t))
-      → Counts t (reachSum m id rs) (adding m t rs None)
-      → Counts t (reachSum m id (r ∷ rs)) (cond f (cond (cond (has t (r .id)) true (leb (length t + 1) 256)) (adding m (added t (r .id) (nans m (r .column))) rs None) (Err (fault 22 (r .column) (r .field)), t)) (adding m t rs None))
+      → Counts t (reachSum m id (r ∷ rs)) (cond (cond (hasId t (r .id)) true (leb (length t + 1) 256)) (addReaches m (added t (r .id) (nans m (r .column))) rs None) (Err (fault 22 (r .column) (r .field)), t))
+      → Counts t (reachSum m id rs) (addReaches m t rs None)
+      → Counts t (reachSum m id (r ∷ rs)) (cond f (cond (cond (hasId t (r .id)) true (leb (length t + 1) 256)) (addReaches m (added t (r .id) (nans m (r .column))) rs None) (Err (fault 22 (r .column) (r .field)), t)) (addReaches m t rs None))
   either-step r rs t true e x y = x
   either-step r rs t false e x y = other-step r rs t e y
 
-  pub counts-all : (rs : List Reach) (t : Table) → Sorted t → length t + length rs ≤ 256 → orNought (counted t id) + reachSum m id rs ≤ 2 ^ 64 - 1 → Counts t (reachSum m id rs) (adding m t rs None)
+  pub counts-all : (rs : List Reach) (t : Table) → Sorted t → length t + length rs ≤ 256 → orNought (countOf t id) + reachSum m id rs ≤ 2 ^ 64 - 1 → Counts t (reachSum m id rs) (addReaches m t rs None)
   counts-all [] t h k b = record { taken = refl; counts = omega arith }
   counts-all (r ∷ rs) t h k b =
       let i : ℤ = r .id in
       let n : ℕ = nans m (r .column) in
-      let c : orNought (counted (added t i n) id) ≡ orNought (counted t id) + cond (sameId id i) n 0 = counted-more i id n t h (omega arith) in
+      let c : orNought (countOf (added t i n) id) ≡ orNought (countOf t id) + cond (sameId id i) n 0 = counted-more i id n t h (omega arith) in
       either-step r rs t (float? m (r .column)) refl
-      (float-step r rs t (cond (has t i) true (leb (length t + 1) 256)) (room (has t i) (length t) (omega arith)) c
+      (float-step r rs t (cond (hasId t i) true (leb (length t + 1) 256)) (room (hasId t i) (length t) (omega arith)) c
       (counts-all rs (added t i n) (sorted-added i n t h) (omega (arith, length-added i n t)) (omega arith)))
       (counts-all rs t h (omega arith) (omega arith))

@@ -12,7 +12,7 @@ use Rattle.meaning.specs.Forest.{none, tree}
 use Rattle.meaning.specs.Model.{Model, prim, float, words, float32}
 use Rattle.meaning.specs.Keeps.{Keeps, InRange}
 use Rattle.meaning.specs.Access.{Pick, Own, fault, among, kids}
-use Rattle.meaning.specs.Law.{Call, computes, after, counted, Few}
+use Rattle.meaning.specs.Law.{Call, computes, countOf, tableAfter, FewIds}
 
 -- two rows, NaN and 0, under one id
 abbrev small : ℤ → Model
@@ -64,13 +64,13 @@ refused = record { model = small (pos 3); keeps = keeps (pos 3) (lit< tt); pick 
 abbrev calls : List Call
 calls = call (pos 7) seven ∷ call (negsuc 1) (lit< tt) ∷ refused ∷ call (pos 7) seven ∷ []
 
-calls-few : Few calls
+calls-few : FewIds calls
 calls-few = lit≤ tt
 
-calls-table : after calls [] ≡ record { id = negsuc 1; count = 1 } ∷ record { id = pos 7; count = 2 } ∷ []
+calls-table : tableAfter calls [] ≡ record { id = negsuc 1; count = 1 } ∷ record { id = pos 7; count = 2 } ∷ []
 calls-table = refl
 
-calls-absent : counted (after calls []) (pos 3) ≡ None
+calls-absent : countOf (tableAfter calls []) (pos 3) ≡ None
 calls-absent = refl
 
 refused-answer : computes refused [] .0 ≡ Err (fault 11 0 1)

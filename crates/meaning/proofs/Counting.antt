@@ -14,12 +14,12 @@ use Rattle.meaning.specs.Model.{Model, Field, Shape, prim, struct, list, map, 
 use Rattle.meaning.specs.Slots.{null, from}
 use Rattle.meaning.specs.Access.{Pick, Own, StepFault, fault, partner}
 use Rattle.meaning.specs.Rows.{sameBy, anyOf}
-use Rattle.meaning.specs.Counts.{Reach, Found, andThen, under, one, within, reaches, reached, float?, nans}
-use Rattle.meaning.specs.Law.{Table, Answer, has, added, adding}
-use Rattle.meaning.specs.Walk.{Step, ret, carry, bind, Role, structField, listElement, mapKey, mapValue, role, fieldAt, missing, close, finish, walk}
+use Rattle.meaning.specs.Counts.{Reach, Found, reaches, reached, float?, nans, followedBy, atPartner, oneReach, shownWithin}
+use Rattle.meaning.specs.Law.{Table, Answer, added, hasId, addReaches}
+use Rattle.meaning.specs.Walk.{Step, ret, bind, Role, structField, listElement, mapKey, mapValue, role, fieldAt, missing, close, finish, walk, bindResult}
 use Rattle.meaning.proofs.Formed.{Exactly, Formed}
-use Rattle.meaning.specs.Ideal.{unless}
-use Rattle.meaning.specs.Counter.{reach, reachBy, counter, counts, Counted-law}
+use Rattle.meaning.specs.Ideal.{refuseIf}
+use Rattle.meaning.specs.Counter.{counter, Counted-law, countReach, countReachBy, computeWalk}
 use Rattle.meaning.proofs.Accepted.{partner-kind}
 use Rattle.meaning.proofs.Steps.{target-found}
 use Rattle.meaning.proofs.Whole.{keeps-formed}
@@ -36,45 +36,45 @@ units (tree f below rest) = tt ∷ units rest
 module _ (m : Model) where
   -- what is found, added from a table on
   abbrev adds : Found → Step Table (Unit {0})
-  adds F t = adding m t (F .0) (F .1)
+  adds F t = addReaches m t (F .0) (F .1)
 
   -- one after another, at a partner, and a single reach
-  adds-list : (rs : List Reach) (G : Found) (t : Table) → adds (rs ++ (G .0), G .1) t ≡ carry (λ _. adds G) (adds (rs, None) t)
+  adds-list : (rs : List Reach) (G : Found) (t : Table) → adds (rs ++ (G .0), G .1) t ≡ bindResult (λ _. adds G) (adds (rs, None) t)
   adds-list [] G t = refl
-  adds-list (r ∷ rs) G t = go (float? m (r .column)) (cond (has t (r .id)) true (leb (length t + 1) 256)) (adds-list rs G t) (adds-list rs G (added t (r .id) (nans m (r .column))))
+  adds-list (r ∷ rs) G t = go (float? m (r .column)) (cond (hasId t (r .id)) true (leb (length t + 1) 256)) (adds-list rs G t) (adds-list rs G (added t (r .id) (nans m (r .column))))
     where
-      go : (a b : Bool) → adds (rs ++ (G .0), G .1) t ≡ carry (λ _. adds G) (adds (rs, None) t)
-          → adds (rs ++ (G .0), G .1) (added t (r .id) (nans m (r .column))) ≡ carry (λ _. adds G) (adds (rs, None) (added t (r .id) (nans m (r .column))))
+      go : (a b : Bool) → adds (rs ++ (G .0), G .1) t ≡ bindResult (λ _. adds G) (adds (rs, None) t)
+          → adds (rs ++ (G .0), G .1) (added t (r .id) (nans m (r .column))) ≡ bindResult (λ _. adds G) (adds (rs, None) (added t (r .id) (nans m (r .column))))
           → cond a (cond b (adds (rs ++ (G .0), G .1) (added t (r .id) (nans m (r .column)))) (Err (fault 22 (r .column) (r .field)), t)) (adds (rs ++ (G .0), G .1) t)
-          ≡ carry (λ _. adds G) (cond a (cond b (adds (rs, None) (added t (r .id) (nans m (r .column)))) (Err (fault 22 (r .column) (r .field)), t)) (adds (rs, None) t))
+          ≡ bindResult (λ _. adds G) (cond a (cond b (adds (rs, None) (added t (r .id) (nans m (r .column)))) (Err (fault 22 (r .column) (r .field)), t)) (adds (rs, None) t))
       go true true x y = y
       go true false x y = refl
       go false b x y = x
 
-  adds-stop : (rs : List Reach) (e : StepFault) (G : Found) (t : Table) → adds (rs, Some e) t ≡ carry (λ _. adds G) (adds (rs, Some e) t)
+  adds-stop : (rs : List Reach) (e : StepFault) (G : Found) (t : Table) → adds (rs, Some e) t ≡ bindResult (λ _. adds G) (adds (rs, Some e) t)
   adds-stop [] e G t = refl
-  adds-stop (r ∷ rs) e G t = go (float? m (r .column)) (cond (has t (r .id)) true (leb (length t + 1) 256)) (adds-stop rs e G t) (adds-stop rs e G (added t (r .id) (nans m (r .column))))
+  adds-stop (r ∷ rs) e G t = go (float? m (r .column)) (cond (hasId t (r .id)) true (leb (length t + 1) 256)) (adds-stop rs e G t) (adds-stop rs e G (added t (r .id) (nans m (r .column))))
     where
-      go : (a b : Bool) → adds (rs, Some e) t ≡ carry (λ _. adds G) (adds (rs, Some e) t)
-          → adds (rs, Some e) (added t (r .id) (nans m (r .column))) ≡ carry (λ _. adds G) (adds (rs, Some e) (added t (r .id) (nans m (r .column))))
+      go : (a b : Bool) → adds (rs, Some e) t ≡ bindResult (λ _. adds G) (adds (rs, Some e) t)
+          → adds (rs, Some e) (added t (r .id) (nans m (r .column))) ≡ bindResult (λ _. adds G) (adds (rs, Some e) (added t (r .id) (nans m (r .column))))
           → cond a (cond b (adds (rs, Some e) (added t (r .id) (nans m (r .column)))) (Err (fault 22 (r .column) (r .field)), t)) (adds (rs, Some e) t)
-          ≡ carry (λ _. adds G) (cond a (cond b (adds (rs, Some e) (added t (r .id) (nans m (r .column)))) (Err (fault 22 (r .column) (r .field)), t)) (adds (rs, Some e) t))
+          ≡ bindResult (λ _. adds G) (cond a (cond b (adds (rs, Some e) (added t (r .id) (nans m (r .column)))) (Err (fault 22 (r .column) (r .field)), t)) (adds (rs, Some e) t))
       go true true x y = y
       go true false x y = refl
       go false b x y = x
 
-  adds-pair : (rs : List Reach) (o : Option StepFault) (G : Found) (t : Table) → adds (andThen (rs, o) G) t ≡ carry (λ _. adds G) (adds (rs, o) t)
+  adds-pair : (rs : List Reach) (o : Option StepFault) (G : Found) (t : Table) → adds (followedBy (rs, o) G) t ≡ bindResult (λ _. adds G) (adds (rs, o) t)
   adds-pair rs None G t = adds-list rs G t
   adds-pair rs (Some e) G t = adds-stop rs e G t
 
-  adds-then : (F G : Found) (t : Table) → adds (andThen F G) t ≡ carry (λ _. adds G) (adds F t)
+  adds-then : (F G : Found) (t : Table) → adds (followedBy F G) t ≡ bindResult (λ _. adds G) (adds F t)
   adds-then F G t = adds-pair (F .0) (F .1) G t
 
-  adds-one : (pick : Pick) (f : Field) (n p : ℕ) (sh : ℕ → Bool) (t : Table) → adds (one m pick f n p sh) t ≡ reach m (f .id) n p t
+  adds-one : (pick : Pick) (f : Field) (n p : ℕ) (sh : ℕ → Bool) (t : Table) → adds (oneReach m pick f n p sh) t ≡ countReach m (f .id) n p t
   adds-one pick f n p sh t = refl
 
 -- a step whose answer says nothing
-carry-unit : (x : Outcome) → carry (λ _. ret tt) x ≡ x
+carry-unit : (x : Outcome) → bindResult (λ _. ret tt) x ≡ x
 carry-unit (Ok u, t) = refl
 carry-unit (Err e, t) = refl
 
@@ -92,12 +92,12 @@ module _ (m : Model) (pick : Pick) where
   close-nothing map (tree f below (tree g under′ (tree h over rest))) n p t e = absurd e
 
   -- an after hook reaches the field's column
-  after-reach : (f : Field) (below : Forest Field) (n p : ℕ) (t : Table) → fieldAt m n ≡ Some (f, below) → missing m p ≡ false → carry (λ _. ret tt) (reachBy m (fieldAt m n) n p t) ≡ reach m (f .id) n p t
+  after-reach : (f : Field) (below : Forest Field) (n p : ℕ) (t : Table) → fieldAt m n ≡ Some (f, below) → missing m p ≡ false → bindResult (λ _. ret tt) (countReachBy m (fieldAt m n) n p t) ≡ countReach m (f .id) n p t
   after-reach f below n p t e seen =
-      ap (λ (o : Option (Field × Forest Field)). carry (λ _. ret tt) (reachBy m o n p t)) e
-      ∙ (ap (λ (b : Bool). carry (λ _. ret tt) (unless b (fault 9 p n) (reach m (f .id) n p) t)) seen ∙ carry-unit (reach m (f .id) n p t))
+      ap (λ (o : Option (Field × Forest Field)). bindResult (λ _. ret tt) (countReachBy m o n p t)) e
+      ∙ (ap (λ (b : Bool). bindResult (λ _. ret tt) (refuseIf b (fault 9 p n) (countReach m (f .id) n p) t)) seen ∙ carry-unit (countReach m (f .id) n p t))
 
-  finish-reach : (r : Role) (f : Field) (below : Forest Field) (n p : ℕ) (t : Table) → fieldAt m n ≡ Some (f, below) → missing m p ≡ false → finish (counter m) r n p tt t ≡ reach m (f .id) n p t
+  finish-reach : (r : Role) (f : Field) (below : Forest Field) (n p : ℕ) (t : Table) → fieldAt m n ≡ Some (f, below) → missing m p ≡ false → finish (counter m) r n p tt t ≡ countReach m (f .id) n p t
   finish-reach structField f below n p t e seen = after-reach f below n p t e seen
   finish-reach listElement f below n p t e seen = after-reach f below n p t e seen
   finish-reach mapKey f below n p t e seen = after-reach f below n p t e seen
@@ -105,7 +105,7 @@ module _ (m : Model) (pick : Pick) where
 
   -- a walk that adds what X adds, and answers nothing for each field
   abbrev Adding : Forest Field → Shape → ℕ → ℕ → ℕ → Step Table (Unit {0}) → Type 0
-  Adding fs s up n c X = (t : Table) → walk m pick (counter m) fs s up n c t ≡ carry (λ _. ret (units fs)) (X t)
+  Adding fs s up n c X = (t : Table) → walk m pick (counter m) fs s up n c t ≡ bindResult (λ _. ret (units fs)) (X t)
 
   -- one field: what is below it, its own reach, and what follows
   module _ (f : Field) (below rest : Forest Field) (s : Shape) (up n c p : ℕ) (found : fieldAt m n ≡ Some (f, below)) (seen : missing m p ≡ false) (exact : Exactly (f .shape) below) (X Z : Step Table (Unit {0}))
@@ -116,33 +116,33 @@ module _ (m : Model) (pick : Pick) where
     abbrev then′ : Unit {0} → Step Table (List (Unit {0}))
     then′ t′ = bind (finish (counter m) (role s up n) n p t′) next
 
-    push : (x : Outcome) → carry (λ ts. ret (tt ∷ ts)) (carry (λ _. ret (units rest)) x) ≡ carry (λ _. ret (tt ∷ units rest)) x
+    push : (x : Outcome) → bindResult (λ ts. ret (tt ∷ ts)) (bindResult (λ _. ret (units rest)) x) ≡ bindResult (λ _. ret (tt ∷ units rest)) x
     push (Ok u, t) = refl
     push (Err e, t) = refl
 
-    after-own : (x : Outcome) → carry next x ≡ carry (λ _. ret (tt ∷ units rest)) (carry (λ _. Z) x)
-    after-own (Ok u, t) = ap (λ (w : Result (List (Unit {0})) StepFault × Table). carry (λ ts. ret (tt ∷ ts)) w) (wz t) ∙ push (Z t)
+    after-own : (x : Outcome) → bindResult next x ≡ bindResult (λ _. ret (tt ∷ units rest)) (bindResult (λ _. Z) x)
+    after-own (Ok u, t) = ap (λ (w : Result (List (Unit {0})) StepFault × Table). bindResult (λ ts. ret (tt ∷ ts)) w) (wz t) ∙ push (Z t)
     after-own (Err e, t) = refl
 
-    after-below : (x : Outcome) → carry then′ (carry (close (counter m) (f .shape) n p) (carry (λ _. ret (units below)) x)) ≡ carry (λ _. ret (tt ∷ units rest)) (carry (λ _. bind (reach m (f .id) n p) (λ _. Z)) x)
+    after-below : (x : Outcome) → bindResult then′ (bindResult (close (counter m) (f .shape) n p) (bindResult (λ _. ret (units below)) x)) ≡ bindResult (λ _. ret (tt ∷ units rest)) (bindResult (λ _. bind (countReach m (f .id) n p) (λ _. Z)) x)
     after-below (Ok u, t) =
-        ap (λ (w : Outcome). carry then′ w) (close-nothing (f .shape) below n p t exact)
-        ∙ (ap (λ (w : Outcome). carry next w) (finish-reach (role s up n) f below n p t found seen) ∙ after-own (reach m (f .id) n p t))
+        ap (λ (w : Outcome). bindResult then′ w) (close-nothing (f .shape) below n p t exact)
+        ∙ (ap (λ (w : Outcome). bindResult next w) (finish-reach (role s up n) f below n p t found seen) ∙ after-own (countReach m (f .id) n p t))
     after-below (Err e, t) = refl
 
     tree-adds : partner m pick s up c n ≡ Ok p → (t : Table)
-        → walk m pick (counter m) (tree f below rest) s up n c t ≡ carry (λ _. ret (tt ∷ units rest)) (carry (λ _. bind (reach m (f .id) n p) (λ _. Z)) (X t))
+        → walk m pick (counter m) (tree f below rest) s up n c t ≡ bindResult (λ _. ret (tt ∷ units rest)) (bindResult (λ _. bind (countReach m (f .id) n p) (λ _. Z)) (X t))
     tree-adds met t =
-        ap (λ (r : Result ℕ StepFault). carry (λ q. bind (bind (walk m pick (counter m) below (f .shape) n (n + 1) q) (close (counter m) (f .shape) n q)) (λ t. bind (finish (counter m) (role s up n) n q t) next)) (r, t)) met
-        ∙ (ap (λ (w : Result (List (Unit {0})) StepFault × Table). carry then′ (carry (close (counter m) (f .shape) n p) w)) (wx t) ∙ after-below (X t))
+        ap (λ (r : Result ℕ StepFault). bindResult (λ q. bind (bind (walk m pick (counter m) below (f .shape) n (n + 1) q) (close (counter m) (f .shape) n q)) (λ t. bind (finish (counter m) (role s up n) n q t) next)) (r, t)) met
+        ∙ (ap (λ (w : Result (List (Unit {0})) StepFault × Table). bindResult then′ (bindResult (close (counter m) (f .shape) n p) w)) (wx t) ∙ after-below (X t))
 
   tree-stops : (f : Field) (below rest : Forest Field) (s : Shape) (up n c : ℕ) (e : StepFault) (t : Table) → partner m pick s up c n ≡ Err e → walk m pick (counter m) (tree f below rest) s up n c t ≡ (Err e, t)
   tree-stops f below rest s up n c e t h =
-      ap (λ (r : Result ℕ StepFault). carry (λ q. bind (bind (walk m pick (counter m) below (f .shape) n (n + 1) q) (close (counter m) (f .shape) n q))
+      ap (λ (r : Result ℕ StepFault). bindResult (λ q. bind (bind (walk m pick (counter m) below (f .shape) n (n + 1) q) (close (counter m) (f .shape) n q))
       (λ t. bind (finish (counter m) (role s up n) n q t) (λ t′. bind (walk m pick (counter m) rest s up (n + 1 + size below) c) (λ ts. ret (t′ ∷ ts))))) (r, t)) h
 
 -- steps that agree everywhere, after any outcome
-carry-ext : (A B : Step Table (Unit {0})) → ((t : Table) → A t ≡ B t) → (x : Outcome) → carry (λ _. A) x ≡ carry (λ _. B) x
+carry-ext : (A B : Step Table (Unit {0})) → ((t : Table) → A t ≡ B t) → (x : Outcome) → bindResult (λ _. A) x ≡ bindResult (λ _. B) x
 carry-ext A B e (Ok u, t) = e t
 carry-ext A B e (Err f, t) = refl
 
@@ -153,41 +153,41 @@ module _ (m : Model) (pick : Pick) (mine : Own m pick) where
 
   -- what a field finds, one part after another
   field-then : (F G : Found) (f : Field) (n p : ℕ) (sh : ℕ → Bool) (t : Table)
-      → adds m (andThen F (andThen (one m pick f n p sh) G)) t ≡ carry (λ _. bind (reach m (f .id) n p) (λ _. adds m G)) (adds m F t)
+      → adds m (followedBy F (followedBy (oneReach m pick f n p sh) G)) t ≡ bindResult (λ _. bind (countReach m (f .id) n p) (λ _. adds m G)) (adds m F t)
   field-then F G f n p sh t =
-      adds-then m F (andThen (one m pick f n p sh) G) t
-      ∙ carry-ext (adds m (andThen (one m pick f n p sh) G)) (bind (reach m (f .id) n p) (λ _. adds m G)) (λ u. adds-then m (one m pick f n p sh) G u) (adds m F t)
+      adds-then m F (followedBy (oneReach m pick f n p sh) G) t
+      ∙ carry-ext (adds m (followedBy (oneReach m pick f n p sh) G)) (bind (countReach m (f .id) n p) (λ _. adds m G)) (λ u. adds-then m (oneReach m pick f n p sh) G u) (adds m F t)
 
   field-last : (F : Found) (f : Field) (n p : ℕ) (sh : ℕ → Bool) (t : Table)
-      → adds m (andThen F (one m pick f n p sh)) t ≡ carry (λ _. bind (reach m (f .id) n p) (λ _. adds m ([], None))) (adds m F t)
+      → adds m (followedBy F (oneReach m pick f n p sh)) t ≡ bindResult (λ _. bind (countReach m (f .id) n p) (λ _. adds m ([], None))) (adds m F t)
   field-last F f n p sh t =
-      adds-then m F (one m pick f n p sh) t
-      ∙ carry-ext (adds m (one m pick f n p sh)) (bind (reach m (f .id) n p) (λ _. adds m ([], None))) (λ u. sym (carry-unit (reach m (f .id) n p u))) (adds m F t)
+      adds-then m F (oneReach m pick f n p sh) t
+      ∙ carry-ext (adds m (oneReach m pick f n p sh)) (bind (countReach m (f .id) n p) (λ _. adds m ([], None))) (λ u. sym (carry-unit (countReach m (f .id) n p u))) (adds m F t)
 
   -- one field at its partner, whether it is met or not, with what follows it
   module _ (f : Field) (below rest : Forest Field) (s : Shape) (up n c : ℕ) (pl : Placed m (tree f below rest) n) (exact : Exactly (f .shape) below) (F G : ℕ → Found) (sh : ℕ → ℕ → Bool)
       (wf : (p : ℕ) → Adding m pick below (f .shape) n (n + 1) p (adds m (F p))) (wg : (p : ℕ) → Adding m pick rest s up (n + 1 + size below) c (adds m (G p))) where
-    field-adds : Adding m pick (tree f below rest) s up n c (adds m (under (partner m pick s up c n) (λ p. andThen (F p) (andThen (one m pick f n p (sh p)) (G p)))))
+    field-adds : Adding m pick (tree f below rest) s up n c (adds m (atPartner (partner m pick s up c n) (λ p. followedBy (F p) (followedBy (oneReach m pick f n p (sh p)) (G p)))))
     field-adds t = go (partner m pick s up c n) refl
       where
         go : (r : Result ℕ StepFault) → partner m pick s up c n ≡ r
-            → walk m pick (counter m) (tree f below rest) s up n c t ≡ carry (λ _. ret (tt ∷ units rest)) (adds m (under r (λ p. andThen (F p) (andThen (one m pick f n p (sh p)) (G p)))) t)
+            → walk m pick (counter m) (tree f below rest) s up n c t ≡ bindResult (λ _. ret (tt ∷ units rest)) (adds m (atPartner r (λ p. followedBy (F p) (followedBy (oneReach m pick f n p (sh p)) (G p)))) t)
         go (Err e) h = tree-stops m pick f below rest s up n c e t h
         go (Ok p) h =
             tree-adds m pick f below rest s up n c p (placed-here m f below rest n pl) (partner-found s up c n p h) exact (adds m (F p)) (adds m (G p)) (wf p) (wg p) h t
-            ∙ ap (λ (x : Outcome). carry (λ _. ret (tt ∷ units rest)) x) (sym (field-then (F p) (G p) f n p (sh p) t))
+            ∙ ap (λ (x : Outcome). bindResult (λ _. ret (tt ∷ units rest)) x) (sym (field-then (F p) (G p) f n p (sh p) t))
 
   module _ (f : Field) (below : Forest Field) (s : Shape) (up n c : ℕ) (pl : Placed m (tree f below none) n) (exact : Exactly (f .shape) below) (F : ℕ → Found) (sh : ℕ → ℕ → Bool)
       (wf : (p : ℕ) → Adding m pick below (f .shape) n (n + 1) p (adds m (F p))) where
-    last-adds : Adding m pick (tree f below none) s up n c (adds m (under (partner m pick s up c n) (λ p. andThen (F p) (one m pick f n p (sh p)))))
+    last-adds : Adding m pick (tree f below none) s up n c (adds m (atPartner (partner m pick s up c n) (λ p. followedBy (F p) (oneReach m pick f n p (sh p)))))
     last-adds t = go (partner m pick s up c n) refl
       where
         go : (r : Result ℕ StepFault) → partner m pick s up c n ≡ r
-            → walk m pick (counter m) (tree f below none) s up n c t ≡ carry (λ _. ret (tt ∷ [])) (adds m (under r (λ p. andThen (F p) (one m pick f n p (sh p)))) t)
+            → walk m pick (counter m) (tree f below none) s up n c t ≡ bindResult (λ _. ret (tt ∷ [])) (adds m (atPartner r (λ p. followedBy (F p) (oneReach m pick f n p (sh p)))) t)
         go (Err e) h = tree-stops m pick f below none s up n c e t h
         go (Ok p) h =
             tree-adds m pick f below none s up n c p (placed-here m f below none n pl) (partner-found s up c n p h) exact (adds m (F p)) (adds m ([], None)) (wf p) (λ u. refl) h t
-            ∙ ap (λ (x : Outcome). carry (λ _. ret (tt ∷ [])) x) (sym (field-last (F p) f n p (sh p) t))
+            ∙ ap (λ (x : Outcome). bindResult (λ _. ret (tt ∷ [])) x) (sym (field-last (F p) f n p (sh p) t))
 
   -- the walk below a type adds what is reached below it
   walk-adds : (fs : Forest Field) (s : Shape) (up n c : ℕ) (shown : ℕ → Bool) → Placed m fs n → Formed fs → Exactly s fs → Adding m pick fs s up n c (adds m (reaches m pick fs s up n c shown))
@@ -199,7 +199,7 @@ module _ (m : Model) (pick : Pick) (mine : Own m pick) where
       (λ p. walk-adds below (f .shape) n (n + 1) p sh (placed-below m f below rest n pl) (fo .1) (fo .0))
       (λ p. walk-adds rest struct up (n + 1 + size below) c shown (placed-rest m f below rest n pl) (fo .2) tt)
   walk-adds (tree f below none) list up n c shown pl fo ex =
-      let sh : ℕ → Bool = within m pick c shown (λ a b j. true) in
+      let sh : ℕ → Bool = shownWithin m pick c shown (λ a b j. true) in
       last-adds f below list up n c pl (fo .0) (λ p. reaches m pick below (f .shape) n (n + 1) p sh) (λ p. sh)
       (λ p. walk-adds below (f .shape) n (n + 1) p sh (placed-below m f below none n pl) (fo .1) (fo .0))
   walk-adds (tree f below (tree g under′ rest)) list up n c shown pl fo ex = absurd ex
@@ -207,23 +207,23 @@ module _ (m : Model) (pick : Pick) (mine : Own m pick) where
   walk-adds (tree f below (tree g under′ none)) map up n c shown pl fo ex =
       let v : ℕ = n + 1 + size below in
       let pr : Placed m (tree g under′ none) v = placed-rest m f below (tree g under′ none) n pl in
-      let keys : ℕ → ℕ → Bool = λ p. within m pick c shown (λ a b j. not (anyOf (sameBy (f .shape) (at m p) j) (from a (j - a)))) in
-      let vals : ℕ → ℕ → Bool = λ p. within m pick c shown (λ a b j. not (anyOf (sameBy (f .shape) (at m p) j) (from (j + 1) (b - (j + 1))))) in
+      let keys : ℕ → ℕ → Bool = λ p. shownWithin m pick c shown (λ a b j. not (anyOf (sameBy (f .shape) (at m p) j) (from a (j - a)))) in
+      let vals : ℕ → ℕ → Bool = λ p. shownWithin m pick c shown (λ a b j. not (anyOf (sameBy (f .shape) (at m p) j) (from (j + 1) (b - (j + 1))))) in
       field-adds f below (tree g under′ none) map up n c pl (fo .0) (λ p. reaches m pick below (f .shape) n (n + 1) p (keys p))
-      (λ p. under (partner m pick map up c v) (λ q. andThen (reaches m pick under′ (g .shape) v (v + 1) q (vals p)) (one m pick g v q (vals p)))) keys
+      (λ p. atPartner (partner m pick map up c v) (λ q. followedBy (reaches m pick under′ (g .shape) v (v + 1) q (vals p)) (oneReach m pick g v q (vals p)))) keys
       (λ p. walk-adds below (f .shape) n (n + 1) p (keys p) (placed-below m f below (tree g under′ none) n pl) (fo .1) (fo .0))
       (λ p. last-adds g under′ map up v c pr (fo .2 .0) (λ q. reaches m pick under′ (g .shape) v (v + 1) q (vals p)) (λ q. vals p)
       (λ q. walk-adds under′ (g .shape) v (v + 1) q (vals p) (placed-below m g under′ none v pr) (fo .2 .1) (fo .2 .0)))
   walk-adds (tree f below (tree g under′ (tree h over rest))) map up n c shown pl fo ex = absurd ex
 
   -- the walk of the schema's struct at column 0, from any table: the answer and the table are those of adding what is reached
-  drop-units : (us : List (Unit {0})) (x : Outcome) → carry (close (counter m) struct 0 0) (carry (λ _. ret us) x) ≡ x
+  drop-units : (us : List (Unit {0})) (x : Outcome) → bindResult (close (counter m) struct 0 0) (bindResult (λ _. ret us) x) ≡ x
   drop-units us (Ok u, t) = refl
   drop-units us (Err e, t) = refl
 
-  pub counts-reached : Formed (m .fields) → (t : Table) → counts m pick t ≡ adding m t (reached m pick .0) (reached m pick .1)
+  pub counts-reached : Formed (m .fields) → (t : Table) → computeWalk m pick t ≡ addReaches m t (reached m pick .0) (reached m pick .1)
   counts-reached fo t =
-      ap (λ (w : Result (List (Unit {0})) StepFault × Table). carry (close (counter m) struct 0 0) w) (walk-adds (m .fields) struct 0 1 0 (λ i. ltb i (m .rows)) (placed-all m) fo tt t)
+      ap (λ (w : Result (List (Unit {0})) StepFault × Table). bindResult (close (counter m) struct 0 0) w) (walk-adds (m .fields) struct 0 1 0 (λ i. ltb i (m .rows)) (placed-all m) fo tt t)
       ∙ drop-units (units (m .fields)) (adds m (reached m pick) t)
 
 pub counted-law : Counted-law

@@ -13,7 +13,7 @@ use Rattle.meaning.specs.Access.{Pick, Own}
 use Rattle.meaning.specs.Rows.{rows}
 use Rattle.meaning.specs.Refusals.{converts}
 use Rattle.meaning.specs.Counts.{reached}
-use Rattle.meaning.specs.Law.{Call, computes, counted, rowNans, hidden}
+use Rattle.meaning.specs.Law.{Call, computes, rowNans, countOf, hiddenNansOf}
 use Rattle.meaning.specs.Keeps.{Keeps, ColumnsKeep}
 use Rattle.meaning.specs.Ideal.{listed, conversion}
 use Rattle.meaning.proofs.Filing.{converted-law}
@@ -66,10 +66,10 @@ call = record { model = some; keeps = some-keeps; pick = pick; own = some-own }
 some-accepted : converts some pick 2048 ≡ Ok 13
 some-accepted = refl
 
-some-keys : (counted (computes call [] .1) (pos 2) ≡ Some 2) × (rowNans (pos 2) call (rows some pick) ≡ 1) × (hidden call (pos 2) (reached some pick .0) ≡ 1)
+some-keys : (countOf (computes call [] .1) (pos 2) ≡ Some 2) × (rowNans (pos 2) call (rows some pick) ≡ 1) × (hiddenNansOf call (pos 2) (reached some pick .0) ≡ 1)
 some-keys = (refl, refl, refl)
 
-some-values : (counted (computes call [] .1) (pos 3) ≡ Some 2) × (rowNans (pos 3) call (rows some pick) ≡ 1) × (hidden call (pos 3) (reached some pick .0) ≡ 1)
+some-values : (countOf (computes call [] .1) (pos 3) ≡ Some 2) × (rowNans (pos 3) call (rows some pick) ≡ 1) × (hiddenNansOf call (pos 3) (reached some pick .0) ≡ 1)
 some-values = (refl, refl, refl)
 
 -- the walk gives its rows

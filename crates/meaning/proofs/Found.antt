@@ -13,7 +13,7 @@ use Rattle.std.specs.declared.result.Result.the-variants.{Ok}
 use Rattle.meaning.specs.Model.{Model, Field, at}
 use Rattle.meaning.specs.Slots.{nan}
 use Rattle.meaning.specs.Access.{Pick, StepFault}
-use Rattle.meaning.specs.Counts.{Reach, Found, sameId, andThen, under, one}
+use Rattle.meaning.specs.Counts.{Reach, Found, sameId, followedBy, atPartner, oneReach}
 use Rattle.meaning.proofs.Totals.{sumTo}
 
 module _ (m : Model) (id : ℤ) where
@@ -40,20 +40,20 @@ module _ (m : Model) (id : ℤ) where
   shown-append [] qs = omega arith
   shown-append (r ∷ rs) qs = omega (arith, shown-append rs qs)
 
-  then-step : (rs : List Reach) (o : Option StepFault) (G : Found) (k s l t : ℕ) → o ≡ None → length rs ≤ k → shownIn rs ≡ s → Good G l t → Good (andThen (rs, o) G) (k + l) (s + t)
+  then-step : (rs : List Reach) (o : Option StepFault) (G : Found) (k s l t : ℕ) → o ≡ None → length rs ≤ k → shownIn rs ≡ s → Good G l t → Good (followedBy (rs, o) G) (k + l) (s + t)
   then-step rs None G k s l t e h i g =
       record { whole = g .whole; few = omega (arith, length-append rs (G .0)); shows = shown-append rs (G .0) ∙ omega arith }
   then-step rs (Some f) G k s l t e h i g = absurd (let z : _≡_ {A = ℕ} 0 1 = cc in omega arith)
 
   -- one walk after another
-  pub good-then : (F G : Found) (k s l t : ℕ) → Good F k s → Good G l t → Good (andThen F G) (k + l) (s + t)
+  pub good-then : (F G : Found) (k s l t : ℕ) → Good F k s → Good G l t → Good (followedBy F G) (k + l) (s + t)
   good-then F G k s l t f g = then-step (F .0) (F .1) G k s l t (f .whole) (f .few) (f .shows) g
 
   -- a walk at a partner that was met
-  pub good-under : (r : Result ℕ StepFault) (k : ℕ → Found) (p l t : ℕ) → r ≡ Ok p → Good (k p) l t → Good (under r k) l t
-  good-under r k p l t e g = subst (λ (q : Result ℕ StepFault). Good (under q k) l t) (sym e) g
+  pub good-under : (r : Result ℕ StepFault) (k : ℕ → Found) (p l t : ℕ) → r ≡ Ok p → Good (k p) l t → Good (atPartner r k) l t
+  good-under r k p l t e g = subst (λ (q : Result ℕ StepFault). Good (atPartner q k) l t) (sym e) g
 
   -- a single reach
   pub good-one : (pick : Pick) (f : Field) (n p : ℕ) (shown : ℕ → Bool)
-      → Good (one m pick f n p shown) 1 (cond (sameId id (f .id)) (sumTo (at m p .len) (λ i. cond (nan (at m p) i && shown i) 1 0)) 0)
+      → Good (oneReach m pick f n p shown) 1 (cond (sameId id (f .id)) (sumTo (at m p .len) (λ i. cond (nan (at m p) i && shown i) 1 0)) 0)
   good-one pick f n p shown = record { whole = refl; few = omega arith; shows = omega arith }

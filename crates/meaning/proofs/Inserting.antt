@@ -8,9 +8,9 @@ use native.Mathlib.Omega.{arith}
 use lib.IntN.{ℤ, pos, negsuc}
 use Rattle.std.proofs.shelf.Tests.{cases-bool, or-cases, or-left, or-right, both-ways}
 use Rattle.meaning.specs.Model.{Column}
-use Rattle.meaning.specs.Slots.{cut}
-use Rattle.meaning.specs.Rows.{Item, nothing, truth, whole, longer, single, doubled, raw, record′, sequence, mapping, sameWhole, sameBytes, same32, same64, anyOf, lastSame, keptFrom, kept}
-use Rattle.meaning.specs.Ideal.{Value, slot, sameTruth, alike, pairs}
+use Rattle.meaning.specs.Slots.{spanSlots}
+use Rattle.meaning.specs.Rows.{sameWhole, sameBytes, same32, same64, anyOf, lastSame, keptFrom, kept, Literal, nullLiteral, booleanLiteral, intLiteral, longLiteral, floatLiteral, doubleLiteral, bytesLiteral, structLiteral, listLiteral, mapLiteral}
+use Rattle.meaning.specs.Ideal.{Value, slot, sameTruth, sameLiteral, keptPairs}
 use Rattle.meaning.proofs.Inserted.{inserted, insertedAll}
 use Rattle.meaning.proofs.Keys.{Alike, numbers, bytes, truths, singles, doubles}
 use Rattle.meaning.proofs.Everywhere.{All}
@@ -168,121 +168,121 @@ wholes : Linked sameWhole
 wholes = record { flip = whole-flip; join = whole-join }
 
 -- a value that is one key with a primitive value is of its kind
-truth-like : (a : Bool) (y : Item) → alike (truth a) y ≡ true → (b : Bool) × (y ≡ truth b) × (sameTruth a b ≡ true)
-truth-like a nothing e = absurd (both-ways false refl e)
-truth-like a (truth b) e = (b, refl, e)
-truth-like a (whole b) e = absurd (both-ways false refl e)
-truth-like a (longer b) e = absurd (both-ways false refl e)
-truth-like a (single b) e = absurd (both-ways false refl e)
-truth-like a (doubled b) e = absurd (both-ways false refl e)
-truth-like a (raw b) e = absurd (both-ways false refl e)
-truth-like a record′ e = absurd (both-ways false refl e)
-truth-like a sequence e = absurd (both-ways false refl e)
-truth-like a mapping e = absurd (both-ways false refl e)
+truth-like : (a : Bool) (y : Literal) → sameLiteral (booleanLiteral a) y ≡ true → (b : Bool) × (y ≡ booleanLiteral b) × (sameTruth a b ≡ true)
+truth-like a nullLiteral e = absurd (both-ways false refl e)
+truth-like a (booleanLiteral b) e = (b, refl, e)
+truth-like a (intLiteral b) e = absurd (both-ways false refl e)
+truth-like a (longLiteral b) e = absurd (both-ways false refl e)
+truth-like a (floatLiteral b) e = absurd (both-ways false refl e)
+truth-like a (doubleLiteral b) e = absurd (both-ways false refl e)
+truth-like a (bytesLiteral b) e = absurd (both-ways false refl e)
+truth-like a structLiteral e = absurd (both-ways false refl e)
+truth-like a listLiteral e = absurd (both-ways false refl e)
+truth-like a mapLiteral e = absurd (both-ways false refl e)
 
-whole-like : (a : ℤ) (y : Item) → alike (whole a) y ≡ true → (b : ℤ) × (y ≡ whole b) × (sameWhole a b ≡ true)
-whole-like a nothing e = absurd (both-ways false refl e)
-whole-like a (truth b) e = absurd (both-ways false refl e)
-whole-like a (whole b) e = (b, refl, e)
-whole-like a (longer b) e = absurd (both-ways false refl e)
-whole-like a (single b) e = absurd (both-ways false refl e)
-whole-like a (doubled b) e = absurd (both-ways false refl e)
-whole-like a (raw b) e = absurd (both-ways false refl e)
-whole-like a record′ e = absurd (both-ways false refl e)
-whole-like a sequence e = absurd (both-ways false refl e)
-whole-like a mapping e = absurd (both-ways false refl e)
+whole-like : (a : ℤ) (y : Literal) → sameLiteral (intLiteral a) y ≡ true → (b : ℤ) × (y ≡ intLiteral b) × (sameWhole a b ≡ true)
+whole-like a nullLiteral e = absurd (both-ways false refl e)
+whole-like a (booleanLiteral b) e = absurd (both-ways false refl e)
+whole-like a (intLiteral b) e = (b, refl, e)
+whole-like a (longLiteral b) e = absurd (both-ways false refl e)
+whole-like a (floatLiteral b) e = absurd (both-ways false refl e)
+whole-like a (doubleLiteral b) e = absurd (both-ways false refl e)
+whole-like a (bytesLiteral b) e = absurd (both-ways false refl e)
+whole-like a structLiteral e = absurd (both-ways false refl e)
+whole-like a listLiteral e = absurd (both-ways false refl e)
+whole-like a mapLiteral e = absurd (both-ways false refl e)
 
-longer-like : (a : ℤ) (y : Item) → alike (longer a) y ≡ true → (b : ℤ) × (y ≡ longer b) × (sameWhole a b ≡ true)
-longer-like a nothing e = absurd (both-ways false refl e)
-longer-like a (truth b) e = absurd (both-ways false refl e)
-longer-like a (whole b) e = absurd (both-ways false refl e)
-longer-like a (longer b) e = (b, refl, e)
-longer-like a (single b) e = absurd (both-ways false refl e)
-longer-like a (doubled b) e = absurd (both-ways false refl e)
-longer-like a (raw b) e = absurd (both-ways false refl e)
-longer-like a record′ e = absurd (both-ways false refl e)
-longer-like a sequence e = absurd (both-ways false refl e)
-longer-like a mapping e = absurd (both-ways false refl e)
+longer-like : (a : ℤ) (y : Literal) → sameLiteral (longLiteral a) y ≡ true → (b : ℤ) × (y ≡ longLiteral b) × (sameWhole a b ≡ true)
+longer-like a nullLiteral e = absurd (both-ways false refl e)
+longer-like a (booleanLiteral b) e = absurd (both-ways false refl e)
+longer-like a (intLiteral b) e = absurd (both-ways false refl e)
+longer-like a (longLiteral b) e = (b, refl, e)
+longer-like a (floatLiteral b) e = absurd (both-ways false refl e)
+longer-like a (doubleLiteral b) e = absurd (both-ways false refl e)
+longer-like a (bytesLiteral b) e = absurd (both-ways false refl e)
+longer-like a structLiteral e = absurd (both-ways false refl e)
+longer-like a listLiteral e = absurd (both-ways false refl e)
+longer-like a mapLiteral e = absurd (both-ways false refl e)
 
-single-like : (a : ℕ) (y : Item) → alike (single a) y ≡ true → (b : ℕ) × (y ≡ single b) × (same32 a b ≡ true)
-single-like a nothing e = absurd (both-ways false refl e)
-single-like a (truth b) e = absurd (both-ways false refl e)
-single-like a (whole b) e = absurd (both-ways false refl e)
-single-like a (longer b) e = absurd (both-ways false refl e)
-single-like a (single b) e = (b, refl, e)
-single-like a (doubled b) e = absurd (both-ways false refl e)
-single-like a (raw b) e = absurd (both-ways false refl e)
-single-like a record′ e = absurd (both-ways false refl e)
-single-like a sequence e = absurd (both-ways false refl e)
-single-like a mapping e = absurd (both-ways false refl e)
+single-like : (a : ℕ) (y : Literal) → sameLiteral (floatLiteral a) y ≡ true → (b : ℕ) × (y ≡ floatLiteral b) × (same32 a b ≡ true)
+single-like a nullLiteral e = absurd (both-ways false refl e)
+single-like a (booleanLiteral b) e = absurd (both-ways false refl e)
+single-like a (intLiteral b) e = absurd (both-ways false refl e)
+single-like a (longLiteral b) e = absurd (both-ways false refl e)
+single-like a (floatLiteral b) e = (b, refl, e)
+single-like a (doubleLiteral b) e = absurd (both-ways false refl e)
+single-like a (bytesLiteral b) e = absurd (both-ways false refl e)
+single-like a structLiteral e = absurd (both-ways false refl e)
+single-like a listLiteral e = absurd (both-ways false refl e)
+single-like a mapLiteral e = absurd (both-ways false refl e)
 
-doubled-like : (a : ℕ) (y : Item) → alike (doubled a) y ≡ true → (b : ℕ) × (y ≡ doubled b) × (same64 a b ≡ true)
-doubled-like a nothing e = absurd (both-ways false refl e)
-doubled-like a (truth b) e = absurd (both-ways false refl e)
-doubled-like a (whole b) e = absurd (both-ways false refl e)
-doubled-like a (longer b) e = absurd (both-ways false refl e)
-doubled-like a (single b) e = absurd (both-ways false refl e)
-doubled-like a (doubled b) e = (b, refl, e)
-doubled-like a (raw b) e = absurd (both-ways false refl e)
-doubled-like a record′ e = absurd (both-ways false refl e)
-doubled-like a sequence e = absurd (both-ways false refl e)
-doubled-like a mapping e = absurd (both-ways false refl e)
+doubled-like : (a : ℕ) (y : Literal) → sameLiteral (doubleLiteral a) y ≡ true → (b : ℕ) × (y ≡ doubleLiteral b) × (same64 a b ≡ true)
+doubled-like a nullLiteral e = absurd (both-ways false refl e)
+doubled-like a (booleanLiteral b) e = absurd (both-ways false refl e)
+doubled-like a (intLiteral b) e = absurd (both-ways false refl e)
+doubled-like a (longLiteral b) e = absurd (both-ways false refl e)
+doubled-like a (floatLiteral b) e = absurd (both-ways false refl e)
+doubled-like a (doubleLiteral b) e = (b, refl, e)
+doubled-like a (bytesLiteral b) e = absurd (both-ways false refl e)
+doubled-like a structLiteral e = absurd (both-ways false refl e)
+doubled-like a listLiteral e = absurd (both-ways false refl e)
+doubled-like a mapLiteral e = absurd (both-ways false refl e)
 
-raw-like : (a : List ℕ) (y : Item) → alike (raw a) y ≡ true → (b : List ℕ) × (y ≡ raw b) × (sameBytes a b ≡ true)
-raw-like a nothing e = absurd (both-ways false refl e)
-raw-like a (truth b) e = absurd (both-ways false refl e)
-raw-like a (whole b) e = absurd (both-ways false refl e)
-raw-like a (longer b) e = absurd (both-ways false refl e)
-raw-like a (single b) e = absurd (both-ways false refl e)
-raw-like a (doubled b) e = absurd (both-ways false refl e)
-raw-like a (raw b) e = (b, refl, e)
-raw-like a record′ e = absurd (both-ways false refl e)
-raw-like a sequence e = absurd (both-ways false refl e)
-raw-like a mapping e = absurd (both-ways false refl e)
+raw-like : (a : List ℕ) (y : Literal) → sameLiteral (bytesLiteral a) y ≡ true → (b : List ℕ) × (y ≡ bytesLiteral b) × (sameBytes a b ≡ true)
+raw-like a nullLiteral e = absurd (both-ways false refl e)
+raw-like a (booleanLiteral b) e = absurd (both-ways false refl e)
+raw-like a (intLiteral b) e = absurd (both-ways false refl e)
+raw-like a (longLiteral b) e = absurd (both-ways false refl e)
+raw-like a (floatLiteral b) e = absurd (both-ways false refl e)
+raw-like a (doubleLiteral b) e = absurd (both-ways false refl e)
+raw-like a (bytesLiteral b) e = (b, refl, e)
+raw-like a structLiteral e = absurd (both-ways false refl e)
+raw-like a listLiteral e = absurd (both-ways false refl e)
+raw-like a mapLiteral e = absurd (both-ways false refl e)
 
-value-flip : (x y : Item) → alike x y ≡ true → alike y x ≡ true
-value-flip (truth a) y e = let r = truth-like a y e in subst (λ (z : Item). alike z (truth a) ≡ true) (sym (r .1)) (truths .flip a (r .0) (r .2))
-value-flip (whole a) y e = let r = whole-like a y e in subst (λ (z : Item). alike z (whole a) ≡ true) (sym (r .1)) (wholes .flip a (r .0) (r .2))
-value-flip (longer a) y e = let r = longer-like a y e in subst (λ (z : Item). alike z (longer a) ≡ true) (sym (r .1)) (wholes .flip a (r .0) (r .2))
-value-flip (single a) y e = let r = single-like a y e in subst (λ (z : Item). alike z (single a) ≡ true) (sym (r .1)) (singles .flip a (r .0) (r .2))
-value-flip (doubled a) y e = let r = doubled-like a y e in subst (λ (z : Item). alike z (doubled a) ≡ true) (sym (r .1)) (doubles .flip a (r .0) (r .2))
-value-flip (raw a) y e = let r = raw-like a y e in subst (λ (z : Item). alike z (raw a) ≡ true) (sym (r .1)) (bytes .flip a (r .0) (r .2))
-value-flip nothing y e = absurd (both-ways false refl e)
-value-flip record′ y e = absurd (both-ways false refl e)
-value-flip sequence y e = absurd (both-ways false refl e)
-value-flip mapping y e = absurd (both-ways false refl e)
+value-flip : (x y : Literal) → sameLiteral x y ≡ true → sameLiteral y x ≡ true
+value-flip (booleanLiteral a) y e = let r = truth-like a y e in subst (λ (z : Literal). sameLiteral z (booleanLiteral a) ≡ true) (sym (r .1)) (truths .flip a (r .0) (r .2))
+value-flip (intLiteral a) y e = let r = whole-like a y e in subst (λ (z : Literal). sameLiteral z (intLiteral a) ≡ true) (sym (r .1)) (wholes .flip a (r .0) (r .2))
+value-flip (longLiteral a) y e = let r = longer-like a y e in subst (λ (z : Literal). sameLiteral z (longLiteral a) ≡ true) (sym (r .1)) (wholes .flip a (r .0) (r .2))
+value-flip (floatLiteral a) y e = let r = single-like a y e in subst (λ (z : Literal). sameLiteral z (floatLiteral a) ≡ true) (sym (r .1)) (singles .flip a (r .0) (r .2))
+value-flip (doubleLiteral a) y e = let r = doubled-like a y e in subst (λ (z : Literal). sameLiteral z (doubleLiteral a) ≡ true) (sym (r .1)) (doubles .flip a (r .0) (r .2))
+value-flip (bytesLiteral a) y e = let r = raw-like a y e in subst (λ (z : Literal). sameLiteral z (bytesLiteral a) ≡ true) (sym (r .1)) (bytes .flip a (r .0) (r .2))
+value-flip nullLiteral y e = absurd (both-ways false refl e)
+value-flip structLiteral y e = absurd (both-ways false refl e)
+value-flip listLiteral y e = absurd (both-ways false refl e)
+value-flip mapLiteral y e = absurd (both-ways false refl e)
 
-value-join : (x y z : Item) → alike x y ≡ true → alike y z ≡ true → alike x z ≡ true
-value-join (truth a) y z e f =
+value-join : (x y z : Literal) → sameLiteral x y ≡ true → sameLiteral y z ≡ true → sameLiteral x z ≡ true
+value-join (booleanLiteral a) y z e f =
     let r = truth-like a y e in
-    let q = truth-like (r .0) z (subst (λ (w : Item). alike w z ≡ true) (r .1) f) in
-    subst (λ (w : Item). alike (truth a) w ≡ true) (sym (q .1)) (truths .join a (r .0) (q .0) (r .2) (q .2))
-value-join (whole a) y z e f =
+    let q = truth-like (r .0) z (subst (λ (w : Literal). sameLiteral w z ≡ true) (r .1) f) in
+    subst (λ (w : Literal). sameLiteral (booleanLiteral a) w ≡ true) (sym (q .1)) (truths .join a (r .0) (q .0) (r .2) (q .2))
+value-join (intLiteral a) y z e f =
     let r = whole-like a y e in
-    let q = whole-like (r .0) z (subst (λ (w : Item). alike w z ≡ true) (r .1) f) in
-    subst (λ (w : Item). alike (whole a) w ≡ true) (sym (q .1)) (wholes .join a (r .0) (q .0) (r .2) (q .2))
-value-join (longer a) y z e f =
+    let q = whole-like (r .0) z (subst (λ (w : Literal). sameLiteral w z ≡ true) (r .1) f) in
+    subst (λ (w : Literal). sameLiteral (intLiteral a) w ≡ true) (sym (q .1)) (wholes .join a (r .0) (q .0) (r .2) (q .2))
+value-join (longLiteral a) y z e f =
     let r = longer-like a y e in
-    let q = longer-like (r .0) z (subst (λ (w : Item). alike w z ≡ true) (r .1) f) in
-    subst (λ (w : Item). alike (longer a) w ≡ true) (sym (q .1)) (wholes .join a (r .0) (q .0) (r .2) (q .2))
-value-join (single a) y z e f =
+    let q = longer-like (r .0) z (subst (λ (w : Literal). sameLiteral w z ≡ true) (r .1) f) in
+    subst (λ (w : Literal). sameLiteral (longLiteral a) w ≡ true) (sym (q .1)) (wholes .join a (r .0) (q .0) (r .2) (q .2))
+value-join (floatLiteral a) y z e f =
     let r = single-like a y e in
-    let q = single-like (r .0) z (subst (λ (w : Item). alike w z ≡ true) (r .1) f) in
-    subst (λ (w : Item). alike (single a) w ≡ true) (sym (q .1)) (singles .join a (r .0) (q .0) (r .2) (q .2))
-value-join (doubled a) y z e f =
+    let q = single-like (r .0) z (subst (λ (w : Literal). sameLiteral w z ≡ true) (r .1) f) in
+    subst (λ (w : Literal). sameLiteral (floatLiteral a) w ≡ true) (sym (q .1)) (singles .join a (r .0) (q .0) (r .2) (q .2))
+value-join (doubleLiteral a) y z e f =
     let r = doubled-like a y e in
-    let q = doubled-like (r .0) z (subst (λ (w : Item). alike w z ≡ true) (r .1) f) in
-    subst (λ (w : Item). alike (doubled a) w ≡ true) (sym (q .1)) (doubles .join a (r .0) (q .0) (r .2) (q .2))
-value-join (raw a) y z e f =
+    let q = doubled-like (r .0) z (subst (λ (w : Literal). sameLiteral w z ≡ true) (r .1) f) in
+    subst (λ (w : Literal). sameLiteral (doubleLiteral a) w ≡ true) (sym (q .1)) (doubles .join a (r .0) (q .0) (r .2) (q .2))
+value-join (bytesLiteral a) y z e f =
     let r = raw-like a y e in
-    let q = raw-like (r .0) z (subst (λ (w : Item). alike w z ≡ true) (r .1) f) in
-    subst (λ (w : Item). alike (raw a) w ≡ true) (sym (q .1)) (bytes .join a (r .0) (q .0) (r .2) (q .2))
-value-join nothing y z e f = absurd (both-ways false refl e)
-value-join record′ y z e f = absurd (both-ways false refl e)
-value-join sequence y z e f = absurd (both-ways false refl e)
-value-join mapping y z e f = absurd (both-ways false refl e)
+    let q = raw-like (r .0) z (subst (λ (w : Literal). sameLiteral w z ≡ true) (r .1) f) in
+    subst (λ (w : Literal). sameLiteral (bytesLiteral a) w ≡ true) (sym (q .1)) (bytes .join a (r .0) (q .0) (r .2) (q .2))
+value-join nullLiteral y z e f = absurd (both-ways false refl e)
+value-join structLiteral y z e f = absurd (both-ways false refl e)
+value-join listLiteral y z e f = absurd (both-ways false refl e)
+value-join mapLiteral y z e f = absurd (both-ways false refl e)
 
 -- the pairs of a map's slot, put in one after another by the keys' values
-pub pairs-inserted : (x : Column) (ks : List Value) (i : ℕ) → pairs x ks i ≡ insertedAll (λ a b. alike (slot ks a .0) (slot ks b .0)) [] (cut x i)
+pub pairs-inserted : (x : Column) (ks : List Value) (i : ℕ) → keptPairs x ks i ≡ insertedAll (λ a b. sameLiteral (slot ks a .0) (slot ks b .0)) [] (spanSlots x i)
 pairs-inserted x ks i =
-    sym (inserted-kept (λ a b. alike (slot ks a .0) (slot ks b .0)) (record { flip = λ a b. value-flip (slot ks a .0) (slot ks b .0); join = λ a b c. value-join (slot ks a .0) (slot ks b .0) (slot ks c .0) }) (cut x i))
+    sym (inserted-kept (λ a b. sameLiteral (slot ks a .0) (slot ks b .0)) (record { flip = λ a b. value-flip (slot ks a .0) (slot ks b .0); join = λ a b c. value-join (slot ks a .0) (slot ks b .0) (slot ks c .0) }) (spanSlots x i))

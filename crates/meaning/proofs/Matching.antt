@@ -10,13 +10,13 @@ use Rattle.std.proofs.shelf.Tests.{eq-eqb, or-left, or-right}
 use Rattle.meaning.specs.Forest.{Forest, none, tree, size, numbers, find}
 use Rattle.meaning.specs.Model.{Model, Field, Column, children}
 use Rattle.meaning.specs.Access.{Own, kids, among}
-use Rattle.meaning.specs.Match.{is, reads, sameBytes, firstOf, byField, byId, byName}
+use Rattle.meaning.specs.Match.{sameBytes, byField, byId, byName, readId, isId, firstChild}
 
-first-among : (f : Column → Bool) (n k : ℕ) (F : Forest Column) → firstOf f n F ≡ Some k → among k (numbers n F) ≡ true
+first-among : (f : Column → Bool) (n k : ℕ) (F : Forest Column) → firstChild f n F ≡ Some k → among k (numbers n F) ≡ true
 first-among f n k none e = absurd (let z : _≡_ {A = ℕ} 0 1 = cc in omega arith)
 first-among f n k (tree x below rest) e = go (f x) e (first-among f (n + 1 + size below) k rest)
   where
-    go : (b : Bool) → cond b (Some n) (firstOf f (n + 1 + size below) rest) ≡ Some k → (firstOf f (n + 1 + size below) rest ≡ Some k → among k (numbers (n + 1 + size below) rest) ≡ true)
+    go : (b : Bool) → cond b (Some n) (firstChild f (n + 1 + size below) rest) ≡ Some k → (firstChild f (n + 1 + size below) rest ≡ Some k → among k (numbers (n + 1 + size below) rest) ≡ true)
         → (eqb k n || among k (numbers (n + 1 + size below) rest)) ≡ true
     go true e r = let d : k ≡ n = cc in or-left (eqb k n) (among k (numbers (n + 1 + size below) rest)) (eq-eqb k n d)
     go false e r = or-right (eqb k n) (among k (numbers (n + 1 + size below) rest)) (r e)
@@ -26,7 +26,7 @@ field-among f m c k None e = absurd (let z : _≡_ {A = ℕ} 0 1 = cc in omega a
 field-among f m c k (Some (x, below)) e = first-among (f x) (c + 1) k (children m c) e
 
 pub own-id : (m : Model) → Own m (byId m)
-own-id m c n k e = field-among (λ f x. is (f .id) (reads (x .idText))) m c k (find n 1 (m .fields)) e
+own-id m c n k e = field-among (λ f x. isId (f .id) (readId (x .idText))) m c k (find n 1 (m .fields)) e
 
 pub own-name : (m : Model) → Own m (byName m)
 own-name m c n k e = field-among (λ f x. sameBytes (f .name) (x .name)) m c k (find n 1 (m .fields)) e

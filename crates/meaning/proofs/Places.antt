@@ -13,7 +13,7 @@ use Rattle.std.proofs.shelf.Tests.{eqb-true, eq-eqb, ne-eqb, lt-ltb, le-ltb, co
 use Rattle.meaning.specs.Forest.{Forest, none, tree, size, numbers, find}
 use Rattle.meaning.specs.Model.{Model, Field, Column, below}
 use Rattle.meaning.specs.Access.{kids, among}
-use Rattle.meaning.specs.Walk.{fieldAt, typeOf, typeAt, nowhere, missing}
+use Rattle.meaning.specs.Walk.{fieldAt, typeOf, typeAt, missing, absentColumn}
 use Rattle.meaning.specs.Ideal.{holderIn, holder}
 
 -- the fields that a walk has before it, from field n on, are the schema's under their numbers
@@ -125,16 +125,16 @@ held-child m (suc c) k a = go (find (suc c) 1 (m .columns)) refl a
     go (Some v) e a = held-below (m .columns) (suc c) k 0 1 v e a
 
 -- a column's child is a column
-found-beside : (F : Forest Column) (k n : ℕ) → among k (numbers n F) ≡ true → nowhere (find k n F) ≡ false
+found-beside : (F : Forest Column) (k n : ℕ) → among k (numbers n F) ≡ true → absentColumn (find k n F) ≡ false
 found-beside none k n e = absurd (let z : _≡_ {A = ℕ} 0 1 = cc in omega arith)
 found-beside (tree x ks rest) k n e = pass (eqb k n) e (found-beside rest k (n + 1 + size ks))
   where
-    pass : (b : Bool) → (b || among k (numbers (n + 1 + size ks) rest)) ≡ true → (among k (numbers (n + 1 + size ks) rest) ≡ true → nowhere (find k (n + 1 + size ks) rest) ≡ false)
-        → nowhere (cond b (Some (x, ks)) (cond (ltb k (n + 1 + size ks)) (find k (n + 1) ks) (find k (n + 1 + size ks) rest))) ≡ false
+    pass : (b : Bool) → (b || among k (numbers (n + 1 + size ks) rest)) ≡ true → (among k (numbers (n + 1 + size ks) rest) ≡ true → absentColumn (find k (n + 1 + size ks) rest) ≡ false)
+        → absentColumn (cond b (Some (x, ks)) (cond (ltb k (n + 1 + size ks)) (find k (n + 1) ks) (find k (n + 1 + size ks) rest))) ≡ false
     pass true e r = refl
-    pass false e r = ap nowhere (cond-false (ltb k (n + 1 + size ks)) _ _ (le-ltb k (n + 1 + size ks) (among-range rest k (n + 1 + size ks) e .0))) ∙ r e
+    pass false e r = ap absentColumn (cond-false (ltb k (n + 1 + size ks)) _ _ (le-ltb k (n + 1 + size ks) (among-range rest k (n + 1 + size ks) e .0))) ∙ r e
 
-found-below : (F : Forest Column) (c k n : ℕ) (v : Tree) → find c n F ≡ Some v → among k (numbers (c + 1) (v .1)) ≡ true → nowhere (find k n F) ≡ false
+found-below : (F : Forest Column) (c k n : ℕ) (v : Tree) → find c n F ≡ Some v → among k (numbers (c + 1) (v .1)) ≡ true → absentColumn (find k n F) ≡ false
 found-below none c k n v e a = absurd (let z : _≡_ {A = ℕ} 0 1 = cc in omega arith)
 found-below (tree h ks rest) c k n v e a =
     pass (eqb c n) (ltb c (n + 1 + size ks)) refl e (λ t. found-below ks c k (n + 1) v t a) (λ t. found-below rest c k (n + 1 + size ks) v t a)
@@ -142,15 +142,15 @@ found-below (tree h ks rest) c k n v e a =
     far : (c + 1 ≤ k) × (k < c + 1 + size (v .1))
     far = among-range (v .1) k (c + 1) a
 
-    inside : n + 1 ≤ k → k < n + 1 + size ks → nowhere (find k (n + 1) ks) ≡ false → nowhere (find k n (tree h ks rest)) ≡ false
-    inside lo hi e = ap nowhere (cond-false (eqb k n) _ _ (ne-eqb k n (λ t. omega arith)) ∙ cond-true (ltb k (n + 1 + size ks)) _ _ (lt-ltb k (n + 1 + size ks) hi)) ∙ e
+    inside : n + 1 ≤ k → k < n + 1 + size ks → absentColumn (find k (n + 1) ks) ≡ false → absentColumn (find k n (tree h ks rest)) ≡ false
+    inside lo hi e = ap absentColumn (cond-false (eqb k n) _ _ (ne-eqb k n (λ t. omega arith)) ∙ cond-true (ltb k (n + 1 + size ks)) _ _ (lt-ltb k (n + 1 + size ks) hi)) ∙ e
 
-    past : n + 1 + size ks ≤ k → nowhere (find k (n + 1 + size ks) rest) ≡ false → nowhere (find k n (tree h ks rest)) ≡ false
-    past lo e = ap nowhere (cond-false (eqb k n) _ _ (ne-eqb k n (λ t. omega arith)) ∙ cond-false (ltb k (n + 1 + size ks)) _ _ (le-ltb k (n + 1 + size ks) lo)) ∙ e
+    past : n + 1 + size ks ≤ k → absentColumn (find k (n + 1 + size ks) rest) ≡ false → absentColumn (find k n (tree h ks rest)) ≡ false
+    past lo e = ap absentColumn (cond-false (eqb k n) _ _ (ne-eqb k n (λ t. omega arith)) ∙ cond-false (ltb k (n + 1 + size ks)) _ _ (le-ltb k (n + 1 + size ks) lo)) ∙ e
 
     pass : (b d : Bool) → eqb c n ≡ b → cond b (Some (h, ks)) (cond d (find c (n + 1) ks) (find c (n + 1 + size ks) rest)) ≡ Some v
-        → (find c (n + 1) ks ≡ Some v → nowhere (find k (n + 1) ks) ≡ false) → (find c (n + 1 + size ks) rest ≡ Some v → nowhere (find k (n + 1 + size ks) rest) ≡ false)
-        → nowhere (find k n (tree h ks rest)) ≡ false
+        → (find c (n + 1) ks ≡ Some v → absentColumn (find k (n + 1) ks) ≡ false) → (find c (n + 1 + size ks) rest ≡ Some v → absentColumn (find k (n + 1 + size ks) rest) ≡ false)
+        → absentColumn (find k n (tree h ks rest)) ≡ false
     pass true d t e x y =
         let g = far in
         let z = eqb-true c n t in

@@ -17,9 +17,9 @@ use Rattle.meaning.specs.Model.{Model, struct}
 use Rattle.meaning.specs.Slots.{upto}
 use Rattle.meaning.specs.Access.{StepFault}
 use Rattle.meaning.specs.Rows.{parts, row, rows, joined}
-use Rattle.meaning.specs.Refusals.{converts, check}
+use Rattle.meaning.specs.Refusals.{converts, checkFields}
 use Rattle.meaning.specs.Counts.{Reach, reached, nansIn, hiddenNans, sameId}
-use Rattle.meaning.specs.Law.{Call, adding, computes, counted, hidden, orZero, rowNans, Rows-law}
+use Rattle.meaning.specs.Law.{Call, computes, orZero, rowNans, Rows-law, countOf, addReaches, hiddenNansOf}
 use Rattle.meaning.proofs.Filing.{keeps-enough}
 use Rattle.meaning.proofs.Totals.{total, total-upto, sum-ext}
 use Rattle.meaning.proofs.Accepted.{chain-ok}
@@ -36,7 +36,7 @@ module _ (c : Call) (id : ℤ) where
   ours = reached m (c .pick) .0
 
   -- the law's words for the sums
-  hidden-sum : (rs : List Reach) → hiddenSum m id rs ≡ hidden c id rs
+  hidden-sum : (rs : List Reach) → hiddenSum m id rs ≡ hiddenNansOf c id rs
   hidden-sum [] = refl
   hidden-sum (r ∷ rs) = ap (λ k. cond (sameId id (r .id)) (hiddenNans m r) 0 + k) (hidden-sum rs)
 
@@ -59,7 +59,7 @@ module _ (c : Call) (id : ℤ) where
     walked : Good m id (reached m (c .pick)) (size (m .fields)) (inParts m (c .pick) id (m .fields) struct 1 0 (λ i. ltb i (m .rows)))
     walked =
         let k = keeps-enough m (c .keeps) in
-        let a = chain-ok m (c .pick) cells (check m (c .pick) cells (m .fields) struct 0 1 0 0) _ taken e in
+        let a = chain-ok m (c .pick) cells (checkFields m (c .pick) cells (m .fields) struct 0 1 0 0) _ taken e in
         conserves m (c .pick) id cells k (c .own) (m .fields) struct 0 1 0 (λ i. ltb i (m .rows)) 0 (a .0) tt (k .shaped) tt (a .1)
 
     few : length ours ≤ 256
@@ -69,10 +69,10 @@ module _ (c : Call) (id : ℤ) where
     small = omega (arith, few, reach-bound m id 65536 (λ x. le-trans (nans-small m x) (keeps-enough m (c .keeps) .short x)) ours)
 
     counted-all : Counts m id [] (reachSum m id ours) (computes c [])
-    counted-all = subst (λ (o : Option StepFault). Counts m id [] (reachSum m id ours) (adding m [] ours o)) (sym (walked .whole)) (counts-all m id ours [] tt (omega (arith, few)) (omega (arith, small)))
+    counted-all = subst (λ (o : Option StepFault). Counts m id [] (reachSum m id ours) (addReaches m [] ours o)) (sym (walked .whole)) (counts-all m id ours [] tt (omega (arith, few)) (omega (arith, small)))
 
-    conserved : orZero (counted (computes c [] .1) id) ≡ rowNans id c (rows m (c .pick)) + hidden c id ours
-    conserved = or-zero (counted (computes c [] .1) id) ∙ (counted-all .counts ∙ omega (arith, sum-hidden m id ours, walked .shows, rows-shown, hidden-sum ours))
+    conserved : orZero (countOf (computes c [] .1) id) ≡ rowNans id c (rows m (c .pick)) + hiddenNansOf c id ours
+    conserved = or-zero (countOf (computes c [] .1) id) ∙ (counted-all .counts ∙ omega (arith, sum-hidden m id ours, walked .shows, rows-shown, hidden-sum ours))
 
 pub rows-law : Rows-law
 rows-law = record {

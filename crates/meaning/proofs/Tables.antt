@@ -10,7 +10,7 @@ use lib.ListN.{length}
 use Rattle.std.specs.declared.option.Option.{Option}
 use Rattle.std.specs.declared.option.Option.the-variants.{Some, None}
 use Rattle.std.proofs.shelf.Tests.{cases-bool}
-use Rattle.meaning.specs.Law.{Sum, Table, below, same, held, added, counted, has}
+use Rattle.meaning.specs.Law.{Table, below, same, added, CountEntry, saturated, countOf, hasId}
 use Rattle.meaning.proofs.Ids.{same-self, same-eq, below-apart, below-on, below-else}
 
 -- every entry's id is above this one
@@ -27,7 +27,7 @@ above-on a b [] h k = tt
 above-on a b (e ∷ es) h k = (below-on a b (e .id) h (k .0), above-on a b es h (k .1))
 
 -- an id below all others has no entry
-above-none : (id : ℤ) (t : Table) → Above id t → counted t id ≡ None
+above-none : (id : ℤ) (t : Table) → Above id t → countOf t id ≡ None
 above-none id [] k = refl
 above-none id (e ∷ es) k = rw (below-apart id (e .id) (k .0)) (above-none id es (k .1))
 
@@ -56,11 +56,11 @@ ascending-added (e ∷ es) id n k =
 
 -- what one addition makes of the count under its id
 abbrev pub plus : Option ℕ → ℕ → Option ℕ
-plus None n = Some (held n)
-plus (Some c) n = Some (held (c + n))
+plus None n = Some (saturated n)
+plus (Some c) n = Some (saturated (c + n))
 
 -- and it changes no other count
-pub counted-added : (t : Table) (id : ℤ) (n : ℕ) (q : ℤ) → Ascending t → counted (added t id n) q ≡ cond (same q id) (plus (counted t q) n) (counted t q)
+pub counted-added : (t : Table) (id : ℤ) (n : ℕ) (q : ℤ) → Ascending t → countOf (added t id n) q ≡ cond (same q id) (plus (countOf t q) n) (countOf t q)
 counted-added [] id n q k = refl
 counted-added (e ∷ es) id n q k =
     elim (cases-bool (same id (e .id))) [
@@ -72,32 +72,32 @@ counted-added (e ∷ es) id n q k =
     ]
 
 -- an entry is its id and its count
-entry : (e f : Sum) → e .id ≡ f .id → e .count ≡ f .count → e ≡ f
+entry : (e f : CountEntry) → e .id ≡ f .id → e .count ≡ f .count → e ≡ f
 entry e f p q = λ i. record { id = p i; count = q i }
 
 -- the head of a table has the lowest id of all
-first-counted : (e : Sum) (es : Table) → counted (e ∷ es) (e .id) ≡ Some (e .count)
+first-counted : (e : CountEntry) (es : Table) → countOf (e ∷ es) (e .id) ≡ Some (e .count)
 first-counted e es = rw (same-self (e .id))
 
-rest-counted : (e : Sum) (es : Table) (q : ℤ) → Ascending (e ∷ es) → counted es q ≡ cond (same q (e .id)) None (counted (e ∷ es) q)
+rest-counted : (e : CountEntry) (es : Table) (q : ℤ) → Ascending (e ∷ es) → countOf es q ≡ cond (same q (e .id)) None (countOf (e ∷ es) q)
 rest-counted e es q k = elim (cases-bool (same q (e .id))) [ inl s ↦ rw (s, same-eq q (e .id) s, above-none (e .id) es (k .0)) | inr s ↦ rw s ]
 
 -- of two tables that count alike, no head is below the other's
-heads : (e f : Sum) (es fs : Table) → Ascending (f ∷ fs) → ((q : ℤ) → counted (e ∷ es) q ≡ counted (f ∷ fs) q) → below (e .id) (f .id) ≡ true → ⊥
+heads : (e f : CountEntry) (es fs : Table) → Ascending (f ∷ fs) → ((q : ℤ) → countOf (e ∷ es) q ≡ countOf (f ∷ fs) q) → below (e .id) (f .id) ≡ true → ⊥
 heads e f es fs k alike b =
     let z : None ≡ Some (e .count) = sym (above-none (e .id) (f ∷ fs) (b, above-on (e .id) (f .id) fs b (k .0))) ∙ (sym (alike (e .id)) ∙ first-counted e es) in
     let w : _≡_ {A = ℕ} 0 1 = cc in omega arith
 
 -- and where the heads have one id, the rests count alike
-rests : (e f : Sum) (es fs : Table) → Ascending (e ∷ es) → Ascending (f ∷ fs) → e .id ≡ f .id → ((q : ℤ) → counted (e ∷ es) q ≡ counted (f ∷ fs) q) → (q : ℤ) → counted es q ≡ counted fs q
+rests : (e f : CountEntry) (es fs : Table) → Ascending (e ∷ es) → Ascending (f ∷ fs) → e .id ≡ f .id → ((q : ℤ) → countOf (e ∷ es) q ≡ countOf (f ∷ fs) q) → (q : ℤ) → countOf es q ≡ countOf fs q
 rests e f es fs j k p alike q =
     rest-counted e es q j
-    ∙ (ap (λ (x : ℤ). cond (same q x) None (counted (e ∷ es) q)) p
+    ∙ (ap (λ (x : ℤ). cond (same q x) None (countOf (e ∷ es) q)) p
     ∙ (ap (λ (o : Option ℕ). cond (same q (f .id)) None o) (alike q)
     ∙ sym (rest-counted f fs q k)))
 
 -- tables that count alike are equal, entry by entry
-pub alike-equal : (t u : Table) → Ascending t → Ascending u → ((q : ℤ) → counted t q ≡ counted u q) → t ≡ u
+pub alike-equal : (t u : Table) → Ascending t → Ascending u → ((q : ℤ) → countOf t q ≡ countOf u q) → t ≡ u
 alike-equal [] [] j k alike = refl
 alike-equal [] (f ∷ fs) j k alike = let z : None ≡ Some (f .count) = alike (f .id) ∙ first-counted f fs in cc
 alike-equal (e ∷ es) [] j k alike = let z : None ≡ Some (e .count) = sym (alike (e .id)) ∙ first-counted e es in cc
@@ -105,9 +105,9 @@ alike-equal (e ∷ es) (f ∷ fs) j k alike =
     elim (cases-bool (same (e .id) (f .id))) [
       | inl s ↦
           let p : e .id ≡ f .id = same-eq (e .id) (f .id) s in
-          let c : Some (e .count) ≡ Some (f .count) = sym (first-counted e es) ∙ (alike (e .id) ∙ (ap (counted (f ∷ fs)) p ∙ first-counted f fs)) in
+          let c : Some (e .count) ≡ Some (f .count) = sym (first-counted e es) ∙ (alike (e .id) ∙ (ap (countOf (f ∷ fs)) p ∙ first-counted f fs)) in
           let n : e .count ≡ f .count = cc in
-          ap₂ (λ (x : Sum) (xs : Table). x ∷ xs) (entry e f p n) (alike-equal es fs (j .1) (k .1) (rests e f es fs j k p alike))
+          ap₂ (λ (x : CountEntry) (xs : Table). x ∷ xs) (entry e f p n) (alike-equal es fs (j .1) (k .1) (rests e f es fs j k p alike))
       | inr s ↦ elim (cases-bool (below (e .id) (f .id))) [
         | inl b ↦ absurd (heads e f es fs k alike b)
         | inr b ↦ absurd (heads f e fs es j (λ q. sym (alike q)) (below-else (e .id) (f .id) s b))
@@ -126,7 +126,7 @@ length-added (e ∷ es) id n =
       ]
     ]
 
-pub length-new : (t : Table) (id : ℤ) (n : ℕ) → has t id ≡ false → length (added t id n) ≡ length t + 1
+pub length-new : (t : Table) (id : ℤ) (n : ℕ) → hasId t id ≡ false → length (added t id n) ≡ length t + 1
 length-new [] id n h = refl
 length-new (e ∷ es) id n h =
     elim (cases-bool (same id (e .id))) [
@@ -155,7 +155,7 @@ pub length-without : (t : Table) (id : ℤ) → length t ≤ suc (length (withou
 length-without [] id = omega arith
 length-without (e ∷ es) id = elim (cases-bool (same id (e .id))) [ inl s ↦ rw s (omega arith) | inr s ↦ rw s (omega (arith, length-without es id)) ]
 
-pub counted-without : (t : Table) (id q : ℤ) → Ascending t → counted (without t id) q ≡ cond (same q id) None (counted t q)
+pub counted-without : (t : Table) (id q : ℤ) → Ascending t → countOf (without t id) q ≡ cond (same q id) None (countOf t q)
 counted-without [] id q k = elim (cases-bool (same q id)) [ inl c ↦ rw c | inr c ↦ rw c ]
 counted-without (e ∷ es) id q k =
     elim (cases-bool (same id (e .id))) [
@@ -164,11 +164,11 @@ counted-without (e ∷ es) id q k =
     ]
 
 -- to find an entry
-pub has-counted : (t : Table) (q : ℤ) (c : ℕ) → counted t q ≡ Some c → has t q ≡ true
+pub has-counted : (t : Table) (q : ℤ) (c : ℕ) → countOf t q ≡ Some c → hasId t q ≡ true
 has-counted [] q c h = cc
 has-counted (e ∷ es) q c h = elim (cases-bool (same q (e .id))) [ inl s ↦ rw s | inr s ↦ rw s (has-counted es q c (rw s at h)) ]
 
-pub has-without : (t : Table) (id q : ℤ) → same q id ≡ false → has (without t id) q ≡ has t q
+pub has-without : (t : Table) (id q : ℤ) → same q id ≡ false → hasId (without t id) q ≡ hasId t q
 has-without [] id q h = refl
 has-without (e ∷ es) id q h =
     elim (cases-bool (same id (e .id))) [
@@ -176,6 +176,6 @@ has-without (e ∷ es) id q h =
       | inr s ↦ rw (s, has-without es id q h)
     ]
 
-pub length-had : (t : Table) (id : ℤ) → has t id ≡ true → length t ≡ suc (length (without t id))
+pub length-had : (t : Table) (id : ℤ) → hasId t id ≡ true → length t ≡ suc (length (without t id))
 length-had [] id h = cc
 length-had (e ∷ es) id h = elim (cases-bool (same id (e .id))) [ inl s ↦ rw s | inr s ↦ rw s (ap suc (length-had es id (rw s at h))) ]

@@ -10,12 +10,12 @@ use Rattle.std.specs.declared.result.Result.the-variants.{Ok, Err}
 use Rattle.meaning.specs.Forest.{none, tree}
 use Rattle.meaning.specs.Model.{Model, Column, Field, Shape, prim, struct, list, map, int, float, Code, words, structs, lists, fixedSizeLists, maps, int32, float32}
 use Rattle.meaning.specs.Access.{Pick, fault}
-use Rattle.meaning.specs.Rows.{nothing, whole, single, record′, sequence, mapping, Values, literal, sameKey}
+use Rattle.meaning.specs.Rows.{Values, sameKey, nullLiteral, intLiteral, floatLiteral, structLiteral, listLiteral, mapLiteral, primitiveLiteral}
 use Rattle.meaning.specs.Refusals.{converts}
 use Rattle.meaning.specs.Counts.{reached}
-use Rattle.meaning.specs.Ideal.{Value, alike, fieldStep, primitiveStep, structStep, listStep, mapStep, conversion}
+use Rattle.meaning.specs.Ideal.{Value, fieldStep, primitiveStep, structStep, listStep, mapStep, conversion, sameLiteral}
 use Rattle.meaning.specs.Law.{Table}
-use Rattle.meaning.specs.Counter.{counts}
+use Rattle.meaning.specs.Counter.{computeWalk}
 
 abbrev field : ℕ → Bool → Shape → Field
 field i required s = record { id = pos i; required = required; name = []; shape = s }
@@ -29,10 +29,10 @@ ints [] = []
 ints (x ∷ xs) = x ∷ 0 ∷ 0 ∷ 0 ∷ ints xs
 
 abbrev num : ℕ → Value
-num k = (whole (pos k), none)
+num k = (intLiteral (pos k), none)
 
 abbrev null′ : Value
-null′ = (nothing, none)
+null′ = (nullLiteral, none)
 
 abbrev side : List Value → Values
 side [] = none
@@ -51,7 +51,7 @@ pairs required = record {
   columns = tree (col maps 1 None (0 ∷ 3 ∷ []) []) (tree (col (words int32) 3 None [] (ints (5 ∷ 6 ∷ 5 ∷ []))) none (tree (col (words int32) 3 (Some (5 ∷ [])) [] (ints (1 ∷ 2 ∷ 3 ∷ []))) none none)) none;
 }
 
-pairs-kept : conversion (pairs false) inOrder 100 ≡ (Ok ((record′, side ((mapping, side (num 5 ∷ num 3 ∷ num 6 ∷ null′ ∷ [])) ∷ [])) ∷ []), 13)
+pairs-kept : conversion (pairs false) inOrder 100 ≡ (Ok ((structLiteral, side ((mapLiteral, side (num 5 ∷ num 3 ∷ num 6 ∷ null′ ∷ [])) ∷ [])) ∷ []), 13)
 pairs-kept = refl
 
 pairs-required : conversion (pairs true) inOrder 100 .0 ≡ Err (fault 16 1 1)
@@ -78,7 +78,7 @@ map-hook :
 map-hook = (refl, refl, refl, refl, refl, refl, refl, refl)
 
 -- keys by value: NaNs of any bits are one key, -0 is 0, and 1 is not 2
-keys-alike : (alike (single 0x7fc00000) (single 0xffc00001) ≡ true) × (alike (single 0) (single 0x80000000) ≡ true) × (alike (single 0x3f800000) (single 0x40000000) ≡ false) × (alike (whole (pos 1)) (single 1) ≡ false)
+keys-alike : (sameLiteral (floatLiteral 0x7fc00000) (floatLiteral 0xffc00001) ≡ true) × (sameLiteral (floatLiteral 0) (floatLiteral 0x80000000) ≡ true) × (sameLiteral (floatLiteral 0x3f800000) (floatLiteral 0x40000000) ≡ false) × (sameLiteral (intLiteral (pos 1)) (floatLiteral 1) ≡ false)
 keys-alike = (refl, refl, refl, refl)
 
 -- a list column over 1, 2, 3, 4 with offsets 1, 1, 3: [], [2,3]; with its second slot null: [], null, which is not cut
@@ -90,8 +90,8 @@ cutting lists? ints? = record {
 }
 
 lists-cut :
-    (conversion (cutting None None) inOrder 100 ≡ (Ok ((record′, side ((sequence, none) ∷ [])) ∷ (record′, side ((sequence, side (num 2 ∷ num 3 ∷ [])) ∷ [])) ∷ []), 10))
-    × (conversion (cutting (Some (1 ∷ [])) None) inOrder 100 ≡ (Ok ((record′, side ((sequence, none) ∷ [])) ∷ (record′, side (null′ ∷ [])) ∷ []), 10))
+    (conversion (cutting None None) inOrder 100 ≡ (Ok ((structLiteral, side ((listLiteral, none) ∷ [])) ∷ (structLiteral, side ((listLiteral, side (num 2 ∷ num 3 ∷ [])) ∷ [])) ∷ []), 10))
+    × (conversion (cutting (Some (1 ∷ [])) None) inOrder 100 ≡ (Ok ((structLiteral, side ((listLiteral, none) ∷ [])) ∷ (structLiteral, side (null′ ∷ [])) ∷ []), 10))
 lists-cut = (refl, refl)
 
 -- a required element is null outside every span, inside one, and inside the span of a null slot
@@ -114,8 +114,8 @@ sized = record {
 }
 
 sized-rows :
-    (conversion sized inOrder 100 ≡ (Ok ((record′, side ((sequence, side (num 1 ∷ num 2 ∷ [])) ∷ [])) ∷ []), 6))
-    × (listStep sized 100 1 1 (two ++ two) 0 ≡ (Ok ((sequence, side two) ∷ (sequence, side two) ∷ []), 2)) × (listStep sized 100 1 1 (num 1 ∷ []) 0 ≡ (Ok [], 0))
+    (conversion sized inOrder 100 ≡ (Ok ((structLiteral, side ((listLiteral, side (num 1 ∷ num 2 ∷ [])) ∷ [])) ∷ []), 6))
+    × (listStep sized 100 1 1 (two ++ two) 0 ≡ (Ok ((listLiteral, side two) ∷ (listLiteral, side two) ∷ []), 2)) × (listStep sized 100 1 1 (num 1 ∷ []) 0 ≡ (Ok [], 0))
 sized-rows = (refl, refl, refl)
 
 -- a null struct over a null required Int gives null; with the struct not null, 15
@@ -126,13 +126,13 @@ over structs? = record {
   columns = tree (col structs 1 structs? [] []) (tree (col (words int32) 1 (Some (0 ∷ [])) [] (ints (9 ∷ []))) none none) none;
 }
 
-holder-null : (conversion (over (Some (0 ∷ []))) inOrder 100 ≡ (Ok ((record′, side (null′ ∷ [])) ∷ []), 5)) × (conversion (over None) inOrder 100 .0 ≡ Err (fault 15 2 2))
+holder-null : (conversion (over (Some (0 ∷ []))) inOrder 100 ≡ (Ok ((structLiteral, side (null′ ∷ [])) ∷ []), 5)) × (conversion (over None) inOrder 100 .0 ≡ Err (fault 15 2 2))
 holder-null = (refl, refl)
 
 -- the struct's hook on results of its own: 9, 17, 14; and `field` and `primitive`
 struct-hook :
     (structStep (over None) 100 2 1 ((num 1 ∷ []) ∷ []) 0 .0 ≡ Err (fault 9 1 2)) × (structStep (over None) 100 1 1 (two ∷ []) 0 .0 ≡ Err (fault 17 1 1)) × (structStep (over None) 100 1 2 [] 0 .0 ≡ Err (fault 14 2 1))
-    × (structStep (over None) 100 0 0 ((num 1 ∷ []) ∷ []) 3 ≡ (Ok ((record′, side (num 1 ∷ [])) ∷ []), 5))
+    × (structStep (over None) 100 0 0 ((num 1 ∷ []) ∷ []) 3 ≡ (Ok ((structLiteral, side (num 1 ∷ [])) ∷ []), 5))
     × (fieldStep (over None) 100 2 2 (null′ ∷ []) 0 .0 ≡ Err (fault 15 2 2)) × (fieldStep (over (Some (0 ∷ []))) 100 2 2 (null′ ∷ []) 0 ≡ (Ok (null′ ∷ []), 0)) × (primitiveStep (over None) 100 2 1 0 .0 ≡ Err (fault 14 1 2))
 struct-hook = (refl, refl, refl, refl, refl, refl, refl)
 
@@ -145,7 +145,7 @@ beside-empty = record {
 }
 
 abbrev beside-row : ℕ → Value
-beside-row k = (record′, side (num k ∷ (record′, none) ∷ []))
+beside-row k = (structLiteral, side (num k ∷ (structLiteral, none) ∷ []))
 
 empty-struct : conversion beside-empty inOrder 100 ≡ (Ok (beside-row 1 ∷ beside-row 2 ∷ beside-row 3 ∷ []), 15)
 empty-struct = refl
@@ -158,21 +158,21 @@ one-float = record {
   columns = tree (col (words float32) 2 None [] (0 ∷ 0 ∷ 0xc0 ∷ 0x7f ∷ 0 ∷ 0 ∷ 0x80 ∷ 0x3f ∷ [])) none none;
 }
 
-counted-one : (counts one-float inOrder [] ≡ (Ok tt, record { id = pos 7; count = 1 } ∷ [])) × (counts one-float inOrder (record { id = pos 7; count = 4 } ∷ []) ≡ (Ok tt, record { id = pos 7; count = 5 } ∷ []))
+counted-one : (computeWalk one-float inOrder [] ≡ (Ok tt, record { id = pos 7; count = 1 } ∷ [])) × (computeWalk one-float inOrder (record { id = pos 7; count = 4 } ∷ []) ≡ (Ok tt, record { id = pos 7; count = 5 } ∷ []))
 counted-one = (refl, refl)
 
 abbrev full : ℕ → Table
 full zero = []
 full (suc n) = record { id = negsuc n; count = 3 } ∷ full n
 
-counted-full : (counts one-float inOrder (full 256) ≡ (Err (fault 22 1 1), full 256)) × (counts one-float inOrder (full 255) .0 ≡ Ok tt)
+counted-full : (computeWalk one-float inOrder (full 256) ≡ (Err (fault 22 1 1), full 256)) × (computeWalk one-float inOrder (full 255) .0 ≡ Ok tt)
 counted-full = (refl, refl)
 
 -- why the laws ask for bytes: these two Int slots hold no bytes, differ as slots, and are one value
 abbrev unbyted : Column
 unbyted = col (words int32) 2 None [] (4294967296 ∷ 0 ∷ 0 ∷ 0 ∷ 8589934592 ∷ 0 ∷ 0 ∷ 0 ∷ [])
 
-unbyted-keys : (sameKey int unbyted 0 1 ≡ false) × (alike (literal int unbyted 0) (literal int unbyted 1) ≡ true)
+unbyted-keys : (sameKey int unbyted 0 1 ≡ false) × (sameLiteral (primitiveLiteral int unbyted 0) (primitiveLiteral int unbyted 1) ≡ true)
 unbyted-keys = (refl, refl)
 
 -- why they ask for types that hold exactly their fields: a list type of two fields is no place for the walk, but not for `converts` and `reached`
@@ -183,5 +183,5 @@ doubled′ = record {
   columns = tree (col lists 0 None (0 ∷ []) []) (tree (col (words int32) 0 None [] []) none none) none;
 }
 
-doubled-walk : (conversion doubled′ inOrder 100 .0 ≡ Err (fault 9 1 1)) × (converts doubled′ inOrder 100 ≡ Ok 0) × (counts doubled′ inOrder [] .0 ≡ Err (fault 9 1 1)) × (reached doubled′ inOrder .1 ≡ None)
+doubled-walk : (conversion doubled′ inOrder 100 .0 ≡ Err (fault 9 1 1)) × (converts doubled′ inOrder 100 ≡ Ok 0) × (computeWalk doubled′ inOrder [] .0 ≡ Err (fault 9 1 1)) × (reached doubled′ inOrder .1 ≡ None)
 doubled-walk = (refl, refl, refl, refl)

@@ -76,14 +76,14 @@ list? m c = isList (at m c .code)
 abbrev pub map? : Model → ℕ → Bool
 map? m c = isMap (at m c .code)
 
-abbrev pub orNone : Option ℕ → StepFault → Result ℕ StepFault
-orNone None e = Err e
-orNone (Some k) e = Ok k
+abbrev pub orRefused : Option ℕ → StepFault → Result ℕ StepFault
+orRefused None e = Err e
+orRefused (Some k) e = Ok k
 
 module _ (m : Model) (pick : Pick) where
   -- the partner of field n below a type of this shape, the type's field being up and its column c
   abbrev pub partner : Shape → ℕ → ℕ → ℕ → Result ℕ StepFault
   partner (prim p) up c n = Err (fault 9 c n)
-  partner struct up c n = cond (struct? m c) (orNone (pick c n) (fault 11 c n)) (Err (fault 10 c n))
+  partner struct up c n = cond (struct? m c) (orRefused (pick c n) (fault 11 c n)) (Err (fault 10 c n))
   partner list up c n = cond (list? m c) (Ok (getD (kids m c) 0 0)) (Err (fault 12 c up))
   partner map up c n = cond (map? m c) (Ok (getD (kids m c) (cond (eqb n (up + 1)) 0 1) 0)) (Err (fault 13 c up))

@@ -12,27 +12,27 @@ use Rattle.meaning.specs.Forest.{Forest}
 use Rattle.meaning.specs.Model.{Model, Field}
 use Rattle.meaning.specs.Access.{Pick, Own, fault}
 use Rattle.meaning.specs.Counts.{float?, nans, reached}
-use Rattle.meaning.specs.Law.{Table, Answer, has, added, adding}
+use Rattle.meaning.specs.Law.{Table, Answer, added, hasId, addReaches}
 use Rattle.meaning.specs.Keeps.{Keeps}
-use Rattle.meaning.specs.Walk.{Step, ret, refuse, Hooks, fieldAt, missing, visitsStruct}
-use Rattle.meaning.specs.Ideal.{unless}
+use Rattle.meaning.specs.Walk.{Step, ret, refuse, Hooks, fieldAt, missing, visitStruct}
+use Rattle.meaning.specs.Ideal.{refuseIf}
 
 -- column c is reached under field n, whose id this is: a column that is no float column adds nothing, and a 257th id is refused
-abbrev pub reach : Model → ℤ → ℕ → ℕ → Step Table (Unit {0})
-reach m id n c t =
+abbrev pub countReach : Model → ℤ → ℕ → ℕ → Step Table (Unit {0})
+countReach m id n c t =
     cond (float? m c)
-    (cond (cond (has t id) true (leb (length t + 1) 256)) (Ok tt, added t id (nans m c)) (Err (fault 22 c n), t))
+    (cond (cond (hasId t id) true (leb (length t + 1) 256)) (Ok tt, added t id (nans m c)) (Err (fault 22 c n), t))
     (Ok tt, t)
 
 -- no such field or column is refused first
-abbrev pub reachBy : Model → Option (Field × Forest Field) → ℕ → ℕ → Step Table (Unit {0})
-reachBy m None n c = refuse (fault 9 c n)
-reachBy m (Some (f, below)) n c = unless (missing m c) (fault 9 c n) (reach m (f .id) n c)
+abbrev pub countReachBy : Model → Option (Field × Forest Field) → ℕ → ℕ → Step Table (Unit {0})
+countReachBy m None n c = refuse (fault 9 c n)
+countReachBy m (Some (f, below)) n c = refuseIf (missing m c) (fault 9 c n) (countReach m (f .id) n c)
 
 abbrev pub counter : Model → Hooks Table (Unit {0})
 counter m = record {
   before = λ r n c. ret tt;
-  after = λ r n c. reachBy m (fieldAt m n) n c;
+  after = λ r n c. countReachBy m (fieldAt m n) n c;
   onField = λ n c t. ret tt;
   onPrimitive = λ n c. ret tt;
   onStruct = λ n c ts. ret tt;
@@ -41,9 +41,9 @@ counter m = record {
 }
 
 -- one `compute`, as a walk
-abbrev pub counts : Model → Pick → Table → Answer × Table
-counts m pick t = visitsStruct m pick (counter m) 0 t
+abbrev pub computeWalk : Model → Pick → Table → Answer × Table
+computeWalk m pick t = visitStruct m pick (counter m) 0 t
 
 -- the walk answers and counts as adding what is reached does, from any table on
 abbrev pub Counted-law : Type 0
-Counted-law = (m : Model) → Keeps m → (pick : Pick) → Own m pick → (t : Table) → counts m pick t ≡ adding m t (reached m pick .0) (reached m pick .1)
+Counted-law = (m : Model) → Keeps m → (pick : Pick) → Own m pick → (t : Table) → computeWalk m pick t ≡ addReaches m t (reached m pick .0) (reached m pick .1)

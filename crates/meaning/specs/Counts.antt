@@ -13,7 +13,7 @@ use Rattle.meaning.specs.Forest.{Forest, none, tree, size}
 use Rattle.meaning.specs.Model.{Model, Field, Shape, prim, struct, list, map, float32, float64, int32, int64, date32, time64, micros, nanos, Code, bits, words, variable, fixedSizeBinary, structs, lists, largeLists, fixedSizeLists, maps, at}
 use Rattle.meaning.specs.Slots.{null, nan, nan32, nan64, span, from, upto}
 use Rattle.meaning.specs.Access.{Pick, StepFault, partner}
-use Rattle.meaning.specs.Rows.{Item, nothing, truth, whole, longer, single, doubled, raw, record′, sequence, mapping, Values, sameBy, anyOf}
+use Rattle.meaning.specs.Rows.{Values, sameBy, anyOf, Literal, nullLiteral, booleanLiteral, intLiteral, longLiteral, floatLiteral, doubleLiteral, bytesLiteral, structLiteral, listLiteral, mapLiteral}
 
 -- a column reached under an id, and which of its slots the rows show
 pub record Reach : Type 0 where
@@ -35,43 +35,43 @@ tally f (j ∷ js) = cond (f j) 1 0 + tally f js
 abbrev pub Found : Type 0
 Found = List Reach × Option StepFault
 
-abbrev pub andThen : Found → Found → Found
-andThen (rs, None) (qs, e) = (rs ++ qs, e)
-andThen (rs, Some e) (qs, e′) = (rs, Some e)
+abbrev pub followedBy : Found → Found → Found
+followedBy (rs, None) (qs, e) = (rs ++ qs, e)
+followedBy (rs, Some e) (qs, e′) = (rs, Some e)
 
-abbrev pub under : Result ℕ StepFault → (ℕ → Found) → Found
-under (Ok p) k = k p
-under (Err e) k = ([], Some e)
+abbrev pub atPartner : Result ℕ StepFault → (ℕ → Found) → Found
+atPartner (Ok p) k = k p
+atPartner (Err e) k = ([], Some e)
 
 module _ (m : Model) (pick : Pick) where
   -- slot j is cut by a slot of c that is shown and not null, and fits there
-  abbrev pub within : ℕ → (ℕ → Bool) → (ℕ → ℕ → ℕ → Bool) → ℕ → Bool
-  within c shown fits j =
+  abbrev pub shownWithin : ℕ → (ℕ → Bool) → (ℕ → ℕ → ℕ → Bool) → ℕ → Bool
+  shownWithin c shown fits j =
       anyOf (λ i. shown i && (not (null (at m c) i) && (leb (span (at m c) i .0) j && (ltb j (span (at m c) i .1) && fits (span (at m c) i .0) (span (at m c) i .1) j)))) (upto (at m c .len))
 
-  abbrev pub one : Field → ℕ → ℕ → (ℕ → Bool) → Found
-  one f n p shown = (record { id = f .id; field = n; column = p; shown = shown } ∷ [], None)
+  abbrev pub oneReach : Field → ℕ → ℕ → (ℕ → Bool) → Found
+  oneReach f n p shown = (record { id = f .id; field = n; column = p; shown = shown } ∷ [], None)
 
   abbrev pub reaches : Forest Field → Shape → ℕ → ℕ → ℕ → (ℕ → Bool) → Found
   reaches none s up n c shown = ([], None)
   reaches (tree f below rest) (prim k) up n c shown = ([], None)
   reaches (tree f below rest) struct up n c shown =
-      under (partner m pick struct up c n) (λ p.
+      atPartner (partner m pick struct up c n) (λ p.
       let sh : ℕ → Bool = λ i. shown i && not (null (at m c) i) in
-      andThen (reaches below (f .shape) n (n + 1) p sh) (andThen (one f n p sh) (reaches rest struct up (n + 1 + size below) c shown)))
+      followedBy (reaches below (f .shape) n (n + 1) p sh) (followedBy (oneReach f n p sh) (reaches rest struct up (n + 1 + size below) c shown)))
   reaches (tree f below rest) list up n c shown =
-      under (partner m pick list up c n) (λ p.
-      let sh : ℕ → Bool = within c shown (λ a b j. true) in
-      andThen (reaches below (f .shape) n (n + 1) p sh) (one f n p sh))
+      atPartner (partner m pick list up c n) (λ p.
+      let sh : ℕ → Bool = shownWithin c shown (λ a b j. true) in
+      followedBy (reaches below (f .shape) n (n + 1) p sh) (oneReach f n p sh))
   reaches (tree f below none) map up n c shown = ([], None)
   reaches (tree f below (tree g under′ rest)) map up n c shown =
-      under (partner m pick map up c n) (λ p.
+      atPartner (partner m pick map up c n) (λ p.
       let same : ℕ → ℕ → Bool = sameBy (f .shape) (at m p) in
-      let keys : ℕ → Bool = within c shown (λ a b j. not (anyOf (same j) (from a (j - a)))) in
-      let vals : ℕ → Bool = within c shown (λ a b j. not (anyOf (same j) (from (j + 1) (b - (j + 1))))) in
-      andThen (reaches below (f .shape) n (n + 1) p keys) (andThen (one f n p keys)
-      (under (partner m pick map up c (n + 1 + size below)) (λ q.
-      andThen (reaches under′ (g .shape) (n + 1 + size below) (n + 1 + size below + 1) q vals) (one g (n + 1 + size below) q vals)))))
+      let keys : ℕ → Bool = shownWithin c shown (λ a b j. not (anyOf (same j) (from a (j - a)))) in
+      let vals : ℕ → Bool = shownWithin c shown (λ a b j. not (anyOf (same j) (from (j + 1) (b - (j + 1))))) in
+      followedBy (reaches below (f .shape) n (n + 1) p keys) (followedBy (oneReach f n p keys)
+      (atPartner (partner m pick map up c (n + 1 + size below)) (λ q.
+      followedBy (reaches under′ (g .shape) (n + 1 + size below) (n + 1 + size below + 1) q vals) (oneReach g (n + 1 + size below) q vals)))))
 
   abbrev pub reached : Found
   reached = reaches (m .fields) struct 0 1 0 (λ i. ltb i (m .rows))
@@ -104,34 +104,34 @@ isFloat maps = false
 abbrev pub float? : Model → ℕ → Bool
 float? m c = isFloat (at m c .code)
 
-abbrev pub nanItem : Item → Bool
-nanItem nothing = false
-nanItem (truth b) = false
-nanItem (whole z) = false
-nanItem (longer z) = false
-nanItem (single b) = nan32 b
-nanItem (doubled b) = nan64 b
-nanItem (raw bs) = false
-nanItem record′ = false
-nanItem sequence = false
-nanItem mapping = false
+abbrev pub nanLiteral : Literal → Bool
+nanLiteral nullLiteral = false
+nanLiteral (booleanLiteral b) = false
+nanLiteral (intLiteral z) = false
+nanLiteral (longLiteral z) = false
+nanLiteral (floatLiteral b) = nan32 b
+nanLiteral (doubleLiteral b) = nan64 b
+nanLiteral (bytesLiteral bs) = false
+nanLiteral structLiteral = false
+nanLiteral listLiteral = false
+nanLiteral mapLiteral = false
 
-abbrev pub forEach : (Item → Values → ℕ) → Values → ℕ
-forEach f none = 0
-forEach f (tree x ps rest) = f x ps + forEach f rest
+abbrev pub sumElements : (Literal → Values → ℕ) → Values → ℕ
+sumElements f none = 0
+sumElements f (tree x ps rest) = f x ps + sumElements f rest
 
-abbrev pub forPairs : (Item → Values → ℕ) → (Item → Values → ℕ) → Values → ℕ
-forPairs f g none = 0
-forPairs f g (tree x ps none) = f x ps
-forPairs f g (tree x ps (tree y qs rest)) = f x ps + (g y qs + forPairs f g rest)
+abbrev pub sumPairs : (Literal → Values → ℕ) → (Literal → Values → ℕ) → Values → ℕ
+sumPairs f g none = 0
+sumPairs f g (tree x ps none) = f x ps
+sumPairs f g (tree x ps (tree y qs rest)) = f x ps + (g y qs + sumPairs f g rest)
 
 -- the NaNs that stand for fields of this id in the parts of a value
 abbrev pub nansIn : ℤ → Forest Field → Shape → Values → ℕ
 nansIn id none s vs = 0
 nansIn id (tree f below rest) (prim p) vs = 0
 nansIn id (tree f below rest) struct none = 0
-nansIn id (tree f below rest) struct (tree x ps more) = cond (sameId id (f .id) && nanItem x) 1 0 + (nansIn id below (f .shape) ps + nansIn id rest struct more)
-nansIn id (tree f below rest) list vs = forEach (λ x ps. cond (sameId id (f .id) && nanItem x) 1 0 + nansIn id below (f .shape) ps) vs
+nansIn id (tree f below rest) struct (tree x ps more) = cond (sameId id (f .id) && nanLiteral x) 1 0 + (nansIn id below (f .shape) ps + nansIn id rest struct more)
+nansIn id (tree f below rest) list vs = sumElements (λ x ps. cond (sameId id (f .id) && nanLiteral x) 1 0 + nansIn id below (f .shape) ps) vs
 nansIn id (tree f below none) map vs = 0
 nansIn id (tree f below (tree g under′ rest)) map vs =
-    forPairs (λ x ps. cond (sameId id (f .id) && nanItem x) 1 0 + nansIn id below (f .shape) ps) (λ x ps. cond (sameId id (g .id) && nanItem x) 1 0 + nansIn id under′ (g .shape) ps) vs
+    sumPairs (λ x ps. cond (sameId id (f .id) && nanLiteral x) 1 0 + nansIn id below (f .shape) ps) (λ x ps. cond (sameId id (g .id) && nanLiteral x) 1 0 + nansIn id under′ (g .shape) ps) vs

@@ -11,36 +11,36 @@ use Rattle.std.specs.declared.result.Result.{Result}
 use Rattle.std.specs.declared.result.Result.the-variants.{Ok, Err}
 use Rattle.meaning.specs.Forest.{Forest, none, tree, size}
 use Rattle.meaning.specs.Model.{Model, Column, Field, Shape, prim, struct, list, map, Primitive, Code, bits, words, variable, fixedSizeBinary, structs, lists, largeLists, fixedSizeLists, maps, at}
-use Rattle.meaning.specs.Slots.{null, span, cut, upto}
+use Rattle.meaning.specs.Slots.{null, span, upto, spanSlots}
 use Rattle.meaning.specs.Access.{Pick, Own, StepFault, fault, struct?, list?, map?}
-use Rattle.meaning.specs.Rows.{Item, nothing, truth, whole, longer, single, doubled, raw, record′, sequence, mapping, Values, item, joined, kept, sameBytes, sameWhole, same32, same64, rows}
-use Rattle.meaning.specs.Refusals.{accepts, some, sum, needs, second, converts}
+use Rattle.meaning.specs.Rows.{Values, joined, kept, sameBytes, sameWhole, same32, same64, rows, Literal, nullLiteral, booleanLiteral, intLiteral, longLiteral, floatLiteral, doubleLiteral, bytesLiteral, structLiteral, listLiteral, mapLiteral, literalAt}
+use Rattle.meaning.specs.Refusals.{accepts, some, sum, converts, firstRequired, afterFirst}
 use Rattle.meaning.specs.Keeps.{Keeps}
-use Rattle.meaning.specs.Walk.{Step, ret, refuse, Hooks, fieldAt, typeAt, missing, visitsStruct}
+use Rattle.meaning.specs.Walk.{Step, ret, refuse, Hooks, fieldAt, typeAt, missing, visitStruct}
 
 -- a value whole: its item, and its parts, which stand below it
 abbrev pub Value : Type 0
-Value = Item × Values
+Value = Literal × Values
 
-abbrev pub isNull : Item → Bool
-isNull nothing = true
-isNull (truth b) = false
-isNull (whole z) = false
-isNull (longer z) = false
-isNull (single b) = false
-isNull (doubled b) = false
-isNull (raw bs) = false
-isNull record′ = false
-isNull sequence = false
-isNull mapping = false
+abbrev pub isNullLiteral : Literal → Bool
+isNullLiteral nullLiteral = true
+isNullLiteral (booleanLiteral b) = false
+isNullLiteral (intLiteral z) = false
+isNullLiteral (longLiteral z) = false
+isNullLiteral (floatLiteral b) = false
+isNullLiteral (doubleLiteral b) = false
+isNullLiteral (bytesLiteral bs) = false
+isNullLiteral structLiteral = false
+isNullLiteral listLiteral = false
+isNullLiteral mapLiteral = false
 
 -- a result's value at a slot
 abbrev pub slot : List Value → ℕ → Value
-slot t i = getD t i (nothing, none)
+slot t i = getD t i (nullLiteral, none)
 
 -- a value beside others
-abbrev pub put : Value → Values → Values
-put v rest = tree (v .0) (v .1) rest
+abbrev pub putBefore : Value → Values → Values
+putBefore v rest = tree (v .0) (v .1) rest
 
 -- a forest of values, as a list of them
 abbrev pub listed : Values → List Value
@@ -51,17 +51,17 @@ listed (tree x ps rest) = (x, ps) ∷ listed rest
 abbrev pub sameTruth : Bool → Bool → Bool
 sameTruth a b = cond a b (not b)
 
-abbrev pub alike : Item → Item → Bool
-alike (truth a) y = elim y [ truth b ↦ sameTruth a b | nothing ↦ false | whole z ↦ false | longer z ↦ false | single b ↦ false | doubled b ↦ false | raw bs ↦ false | record′ ↦ false | sequence ↦ false | mapping ↦ false ]
-alike (whole a) y = elim y [ whole b ↦ sameWhole a b | nothing ↦ false | truth b ↦ false | longer z ↦ false | single b ↦ false | doubled b ↦ false | raw bs ↦ false | record′ ↦ false | sequence ↦ false | mapping ↦ false ]
-alike (longer a) y = elim y [ longer b ↦ sameWhole a b | nothing ↦ false | truth b ↦ false | whole z ↦ false | single b ↦ false | doubled b ↦ false | raw bs ↦ false | record′ ↦ false | sequence ↦ false | mapping ↦ false ]
-alike (single a) y = elim y [ single b ↦ same32 a b | nothing ↦ false | truth b ↦ false | whole z ↦ false | longer z ↦ false | doubled b ↦ false | raw bs ↦ false | record′ ↦ false | sequence ↦ false | mapping ↦ false ]
-alike (doubled a) y = elim y [ doubled b ↦ same64 a b | nothing ↦ false | truth b ↦ false | whole z ↦ false | longer z ↦ false | single b ↦ false | raw bs ↦ false | record′ ↦ false | sequence ↦ false | mapping ↦ false ]
-alike (raw a) y = elim y [ raw b ↦ sameBytes a b | nothing ↦ false | truth b ↦ false | whole z ↦ false | longer z ↦ false | single b ↦ false | doubled b ↦ false | record′ ↦ false | sequence ↦ false | mapping ↦ false ]
-alike nothing y = false
-alike record′ y = false
-alike sequence y = false
-alike mapping y = false
+abbrev pub sameLiteral : Literal → Literal → Bool
+sameLiteral (booleanLiteral a) y = elim y [ booleanLiteral b ↦ sameTruth a b | nullLiteral ↦ false | intLiteral z ↦ false | longLiteral z ↦ false | floatLiteral b ↦ false | doubleLiteral b ↦ false | bytesLiteral bs ↦ false | structLiteral ↦ false | listLiteral ↦ false | mapLiteral ↦ false ]
+sameLiteral (intLiteral a) y = elim y [ intLiteral b ↦ sameWhole a b | nullLiteral ↦ false | booleanLiteral b ↦ false | longLiteral z ↦ false | floatLiteral b ↦ false | doubleLiteral b ↦ false | bytesLiteral bs ↦ false | structLiteral ↦ false | listLiteral ↦ false | mapLiteral ↦ false ]
+sameLiteral (longLiteral a) y = elim y [ longLiteral b ↦ sameWhole a b | nullLiteral ↦ false | booleanLiteral b ↦ false | intLiteral z ↦ false | floatLiteral b ↦ false | doubleLiteral b ↦ false | bytesLiteral bs ↦ false | structLiteral ↦ false | listLiteral ↦ false | mapLiteral ↦ false ]
+sameLiteral (floatLiteral a) y = elim y [ floatLiteral b ↦ same32 a b | nullLiteral ↦ false | booleanLiteral b ↦ false | intLiteral z ↦ false | longLiteral z ↦ false | doubleLiteral b ↦ false | bytesLiteral bs ↦ false | structLiteral ↦ false | listLiteral ↦ false | mapLiteral ↦ false ]
+sameLiteral (doubleLiteral a) y = elim y [ doubleLiteral b ↦ same64 a b | nullLiteral ↦ false | booleanLiteral b ↦ false | intLiteral z ↦ false | longLiteral z ↦ false | floatLiteral b ↦ false | bytesLiteral bs ↦ false | structLiteral ↦ false | listLiteral ↦ false | mapLiteral ↦ false ]
+sameLiteral (bytesLiteral a) y = elim y [ bytesLiteral b ↦ sameBytes a b | nullLiteral ↦ false | booleanLiteral b ↦ false | intLiteral z ↦ false | longLiteral z ↦ false | floatLiteral b ↦ false | doubleLiteral b ↦ false | structLiteral ↦ false | listLiteral ↦ false | mapLiteral ↦ false ]
+sameLiteral nullLiteral y = false
+sameLiteral structLiteral y = false
+sameLiteral listLiteral y = false
+sameLiteral mapLiteral y = false
 
 -- what a hook asks of the field it is given: a primitive type; a struct type; a list type, and whether its element is required; a map type, and whether its value is
 abbrev pub primOf : Option (Shape × Forest Field) → Option Primitive
@@ -82,7 +82,7 @@ abbrev pub listOf : Option (Shape × Forest Field) → Option Bool
 listOf None = None
 listOf (Some (prim p, fs)) = None
 listOf (Some (struct, fs)) = None
-listOf (Some (list, fs)) = Some (needs fs)
+listOf (Some (list, fs)) = Some (firstRequired fs)
 listOf (Some (map, fs)) = None
 
 abbrev pub mapOf : Option (Shape × Forest Field) → Option Bool
@@ -90,24 +90,24 @@ mapOf None = None
 mapOf (Some (prim p, fs)) = None
 mapOf (Some (struct, fs)) = None
 mapOf (Some (list, fs)) = None
-mapOf (Some (map, fs)) = Some (needs (second fs))
+mapOf (Some (map, fs)) = Some (firstRequired (afterFirst fs))
 
 abbrev pub requiredOf : Option (Field × Forest Field) → Option Bool
 requiredOf None = None
 requiredOf (Some (f, below)) = Some (f .required)
 
 -- the step on what was found, or a refusal; and a refusal where a test holds
-abbrev pub given : {X Y S : Type 0} → Option X → StepFault → (X → Step S Y) → Step S Y
-given None e k = refuse e
-given (Some x) e k = k x
+abbrev pub orRefuse : {X Y S : Type 0} → Option X → StepFault → (X → Step S Y) → Step S Y
+orRefuse None e k = refuse e
+orRefuse (Some x) e k = k x
 
-abbrev pub unless : {Y S : Type 0} → Bool → StepFault → Step S Y → Step S Y
-unless true e k = refuse e
-unless false e k = k
+abbrev pub refuseIf : {Y S : Type 0} → Bool → StepFault → Step S Y → Step S Y
+refuseIf true e k = refuse e
+refuseIf false e k = k
 
 -- a hook's first question: a field of the kind that the hook is for, and a column
 abbrev pub sought : {X Y : Type 0} → Model → Option X → ℕ → ℕ → (X → Step ℕ Y) → Step ℕ Y
-sought m o n c k = given o (fault 9 c n) (λ x. unless (missing m c) (fault 9 c n) (k x))
+sought m o n c k = orRefuse o (fault 9 c n) (λ x. refuseIf (missing m c) (fault 9 c n) (k x))
 
 -- the column whose child column k is, the trees from n on being below column up
 abbrev pub holderIn : ℕ → ℕ → ℕ → Forest Column → ℕ
@@ -118,47 +118,47 @@ abbrev pub holder : Model → ℕ → ℕ
 holder m k = holderIn k 0 1 (m .columns)
 
 -- the rows of a list column over an element result of this length: a fixed-size list has as many as the result fills
-abbrev pub rowsBy : Code → ℕ → ℕ → ℕ
-rowsBy bits len l = len
-rowsBy (words w) len l = len
-rowsBy (variable t) len l = len
-rowsBy (fixedSizeBinary w) len l = len
-rowsBy structs len l = len
-rowsBy lists len l = len
-rowsBy largeLists len l = len
-rowsBy (fixedSizeLists s) len l = l / s
-rowsBy maps len l = len
+abbrev pub listRows : Code → ℕ → ℕ → ℕ
+listRows bits len l = len
+listRows (words w) len l = len
+listRows (variable t) len l = len
+listRows (fixedSizeBinary w) len l = len
+listRows structs len l = len
+listRows lists len l = len
+listRows largeLists len l = len
+listRows (fixedSizeLists s) len l = l / s
+listRows maps len l = len
 
 -- the spans of a column's first slots: one that ends past a result; a null of a result in the span of a slot that is not null
 abbrev pub pastEnd : Column → ℕ → ℕ → Bool
 pastEnd x rows l = some (λ i. ltb l (span x i .1)) (upto rows)
 
-abbrev pub nullIn : Column → ℕ → List Value → Bool
-nullIn x rows t = some (λ i. not (null x i) && some (λ j. isNull (slot t j .0)) (cut x i)) (upto rows)
+abbrev pub nullInSpan : Column → ℕ → List Value → Bool
+nullInSpan x rows t = some (λ i. not (null x i) && some (λ j. isNullLiteral (slot t j .0)) (spanSlots x i)) (upto rows)
 
 -- a row for each of so many slots: null where the slot is null, else this item over these parts
-abbrev pub rowed : Column → ℕ → Item → (ℕ → Values) → List Value
-rowed x rows it below = each (λ i. (cond (null x i) nothing it, cond (null x i) none (below i))) (upto rows)
+abbrev pub rowValues : Column → ℕ → Literal → (ℕ → Values) → List Value
+rowValues x rows it below = each (λ i. (cond (null x i) nullLiteral it, cond (null x i) none (below i))) (upto rows)
 
 -- a struct's parts at a slot: the slot's value in each field's result
-abbrev pub across : List (List Value) → ℕ → Values
-across [] i = none
-across (t ∷ ts) i = put (slot t i) (across ts i)
+abbrev pub fieldParts : List (List Value) → ℕ → Values
+fieldParts [] i = none
+fieldParts (t ∷ ts) i = putBefore (slot t i) (fieldParts ts i)
 
 -- a list's parts: the values of the element result that the slot cuts out
 abbrev pub elements : Column → List Value → ℕ → Values
-elements x t i = joined (λ j. put (slot t j) none) (cut x i)
+elements x t i = joined (λ j. putBefore (slot t j) none) (spanSlots x i)
 
 -- the pairs that a map's slot keeps, as (key slot, value slot): a repeated key at its first place with its first key and its last value
-abbrev pub pairs : Column → List Value → ℕ → List (ℕ × ℕ)
-pairs x ks i = kept (λ a b. alike (slot ks a .0) (slot ks b .0)) (cut x i)
+abbrev pub keptPairs : Column → List Value → ℕ → List (ℕ × ℕ)
+keptPairs x ks i = kept (λ a b. sameLiteral (slot ks a .0) (slot ks b .0)) (spanSlots x i)
 
 abbrev pub entries : Column → List Value → List Value → ℕ → Values
-entries x ks vs i = joined (λ (kv : ℕ × ℕ). put (slot ks (kv .0)) (put (slot vs (kv .1)) none)) (pairs x ks i)
+entries x ks vs i = joined (λ (kv : ℕ × ℕ). putBefore (slot ks (kv .0)) (putBefore (slot vs (kv .1)) none)) (keptPairs x ks i)
 
 -- two cells for each kept pair of a slot that is not null
 abbrev pub pairCells : Column → List Value → ℕ
-pairCells x ks = 2 * sum (λ i. cond (null x i) 0 (length (pairs x ks i))) (upto (x .len))
+pairCells x ks = 2 * sum (λ i. cond (null x i) 0 (length (keptPairs x ks i))) (upto (x .len))
 
 -- a field result that has not as many rows as the struct's column
 abbrev pub uneven : ℕ → List (List Value) → Bool
@@ -171,47 +171,47 @@ module _ (m : Model) (cells : ℕ) where
   taking n c more t taken = cond (leb (taken + more) cells) (Ok t, taken + more) (Err (fault 21 c n), taken)
 
   -- a required field's null at a slot where the struct that holds the column is not null
-  abbrev pub bare : ℕ → List Value → Bool
-  bare c t = some (λ i. not (struct? m (holder m c) && null (at m (holder m c)) i) && isNull (slot t i .0)) (upto (length t))
+  abbrev pub nullRequired : ℕ → List Value → Bool
+  nullRequired c t = some (λ i. not (struct? m (holder m c) && null (at m (holder m c)) i) && isNullLiteral (slot t i .0)) (upto (length t))
 
   abbrev pub fieldStep : ℕ → ℕ → List Value → Step ℕ (List Value)
   fieldStep n c t =
       sought m (requiredOf (fieldAt m n)) n c (λ required.
-      unless (required && bare c t) (fault 15 c n)
+      refuseIf (required && nullRequired c t) (fault 15 c n)
       (ret t))
 
   abbrev pub primitiveStep : ℕ → ℕ → Step ℕ (List Value)
   primitiveStep n c =
       sought m (primOf (typeAt m n)) n c (λ p.
-      unless (not (accepts p (at m c .code))) (fault 14 c n)
-      (taking n c (at m c .len) (each (λ i. (item (prim p) (at m c) i, none)) (upto (at m c .len)))))
+      refuseIf (not (accepts p (at m c .code))) (fault 14 c n)
+      (taking n c (at m c .len) (each (λ i. (literalAt (prim p) (at m c) i, none)) (upto (at m c .len)))))
 
   abbrev pub structStep : ℕ → ℕ → List (List Value) → Step ℕ (List Value)
   structStep n c ts =
       sought m (structOf (typeAt m n)) n c (λ _.
-      unless (uneven (at m c .len) ts) (fault 17 c n)
-      (unless (eqb (length ts) 0 && not (struct? m c)) (fault 14 c n)
-      (taking n c (at m c .len + length ts * at m c .len) (rowed (at m c) (at m c .len) record′ (across ts)))))
+      refuseIf (uneven (at m c .len) ts) (fault 17 c n)
+      (refuseIf (eqb (length ts) 0 && not (struct? m c)) (fault 14 c n)
+      (taking n c (at m c .len + length ts * at m c .len) (rowValues (at m c) (at m c .len) structLiteral (fieldParts ts)))))
 
   abbrev pub listStep : ℕ → ℕ → List Value → Step ℕ (List Value)
   listStep n c t =
-      let rows : ℕ = rowsBy (at m c .code) (at m c .len) (length t) in
+      let rows : ℕ = listRows (at m c .code) (at m c .len) (length t) in
       sought m (listOf (typeAt m n)) n c (λ required.
-      unless (not (list? m c)) (fault 12 c n)
-      (unless (pastEnd (at m c) rows (length t)) (fault 20 c n)
-      (unless (required && nullIn (at m c) rows t) (fault 16 c n)
-      (taking n c rows (rowed (at m c) rows sequence (elements (at m c) t))))))
+      refuseIf (not (list? m c)) (fault 12 c n)
+      (refuseIf (pastEnd (at m c) rows (length t)) (fault 20 c n)
+      (refuseIf (required && nullInSpan (at m c) rows t) (fault 16 c n)
+      (taking n c rows (rowValues (at m c) rows listLiteral (elements (at m c) t))))))
 
   abbrev pub mapStep : ℕ → ℕ → List Value → List Value → Step ℕ (List Value)
   mapStep n c ks vs =
       let rows : ℕ = at m c .len in
       sought m (mapOf (typeAt m n)) n c (λ required.
-      unless (not (map? m c)) (fault 13 c n)
-      (unless (not (eqb (length ks) (length vs))) (fault 18 c n)
-      (unless (pastEnd (at m c) rows (length ks)) (fault 20 c n)
-      (unless (nullIn (at m c) rows ks) (fault 19 c n)
-      (unless (required && nullIn (at m c) rows vs) (fault 16 c n)
-      (taking n c (rows + pairCells (at m c) ks) (rowed (at m c) rows mapping (entries (at m c) ks vs))))))))
+      refuseIf (not (map? m c)) (fault 13 c n)
+      (refuseIf (not (eqb (length ks) (length vs))) (fault 18 c n)
+      (refuseIf (pastEnd (at m c) rows (length ks)) (fault 20 c n)
+      (refuseIf (nullInSpan (at m c) rows ks) (fault 19 c n)
+      (refuseIf (required && nullInSpan (at m c) rows vs) (fault 16 c n)
+      (taking n c (rows + pairCells (at m c) ks) (rowValues (at m c) rows mapLiteral (entries (at m c) ks vs))))))))
 
   -- the converter: the state is the number of cells taken, a result the values of a column's slots
   abbrev pub converter : Hooks ℕ (List Value)
@@ -227,7 +227,7 @@ module _ (m : Model) (cells : ℕ) where
 
 -- conversion of the schema's struct at column 0, from no cells taken, as a walk
 abbrev pub conversion : Model → Pick → ℕ → Result (List Value) StepFault × ℕ
-conversion m pick cells = visitsStruct m pick (converter m cells) 0 0
+conversion m pick cells = visitStruct m pick (converter m cells) 0 0
 
 -- the walk gives the rows and takes the cells of `converts`, and it refuses exactly as `converts` does
 pub record Converted (m : Model) (pick : Pick) (cells : ℕ) : Type 0 where

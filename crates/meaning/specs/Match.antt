@@ -11,29 +11,29 @@ use Rattle.meaning.specs.Model.{Model, Field, Column, children}
 use Rattle.meaning.specs.Access.{Pick}
 
 -- the value of the digits, those before them being v
-abbrev digits : ℕ → List ℕ → Option ℕ
-digits v [] = Some v
-digits v (b ∷ bs) = cond (leb 48 b && leb b 57) (digits (10 * v + (b - 48)) bs) None
+abbrev digitsValue : ℕ → List ℕ → Option ℕ
+digitsValue v [] = Some v
+digitsValue v (b ∷ bs) = cond (leb 48 b && leb b 57) (digitsValue (10 * v + (b - 48)) bs) None
 
-abbrev some : List ℕ → Option ℕ
-some [] = None
-some (b ∷ bs) = digits 0 (b ∷ bs)
+abbrev digitsOnly : List ℕ → Option ℕ
+digitsOnly [] = None
+digitsOnly (b ∷ bs) = digitsValue 0 (b ∷ bs)
 
-abbrev up : Option ℕ → Option ℤ
-up None = None
-up (Some n) = cond (ltb n (2 ^ 31)) (Some (pos n)) None
+abbrev positive : Option ℕ → Option ℤ
+positive None = None
+positive (Some n) = cond (ltb n (2 ^ 31)) (Some (pos n)) None
 
-abbrev minus : ℕ → ℤ
-minus n = cond (eqb n 0) (pos 0) (negsuc (n - 1))
+abbrev negated : ℕ → ℤ
+negated n = cond (eqb n 0) (pos 0) (negsuc (n - 1))
 
-abbrev down : Option ℕ → Option ℤ
-down None = None
-down (Some n) = cond (leb n (2 ^ 31)) (Some (minus n)) None
+abbrev negative : Option ℕ → Option ℤ
+negative None = None
+negative (Some n) = cond (leb n (2 ^ 31)) (Some (negated n)) None
 
 -- one sign or none, then at least one digit, within 32 signed bits
 abbrev pub idOf : List ℕ → Option ℤ
 idOf [] = None
-idOf (b ∷ bs) = cond (eqb b 43) (up (some bs)) (cond (eqb b 45) (down (some bs)) (up (some (b ∷ bs))))
+idOf (b ∷ bs) = cond (eqb b 43) (positive (digitsOnly bs)) (cond (eqb b 45) (negative (digitsOnly bs)) (positive (digitsOnly (b ∷ bs))))
 
 abbrev sameId : ℤ → ℤ → Bool
 sameId (pos a) (pos b) = eqb a b
@@ -41,13 +41,13 @@ sameId (pos a) (negsuc b) = false
 sameId (negsuc a) (pos b) = false
 sameId (negsuc a) (negsuc b) = eqb a b
 
-abbrev pub reads : Option (List ℕ) → Option ℤ
-reads None = None
-reads (Some bs) = idOf bs
+abbrev pub readId : Option (List ℕ) → Option ℤ
+readId None = None
+readId (Some bs) = idOf bs
 
-abbrev pub is : ℤ → Option ℤ → Bool
-is id None = false
-is id (Some z) = sameId id z
+abbrev pub isId : ℤ → Option ℤ → Bool
+isId id None = false
+isId id (Some z) = sameId id z
 
 abbrev pub sameBytes : List ℕ → List ℕ → Bool
 sameBytes [] [] = true
@@ -56,16 +56,16 @@ sameBytes (x ∷ xs) [] = false
 sameBytes (x ∷ xs) (y ∷ ys) = eqb x y && sameBytes xs ys
 
 -- the number of the first column that passes
-abbrev pub firstOf : (Column → Bool) → ℕ → Forest Column → Option ℕ
-firstOf f n none = None
-firstOf f n (tree x below rest) = cond (f x) (Some n) (firstOf f (n + 1 + size below) rest)
+abbrev pub firstChild : (Column → Bool) → ℕ → Forest Column → Option ℕ
+firstChild f n none = None
+firstChild f n (tree x below rest) = cond (f x) (Some n) (firstChild f (n + 1 + size below) rest)
 
 abbrev pub byField : (Field → Column → Bool) → Model → ℕ → Option (Field × Forest Field) → Option ℕ
 byField f m c None = None
-byField f m c (Some (x, below)) = firstOf (f x) (c + 1) (children m c)
+byField f m c (Some (x, below)) = firstChild (f x) (c + 1) (children m c)
 
 abbrev pub byId : Model → Pick
-byId m c n = byField (λ f x. is (f .id) (reads (x .idText))) m c (find n 1 (m .fields))
+byId m c n = byField (λ f x. isId (f .id) (readId (x .idText))) m c (find n 1 (m .fields))
 
 abbrev pub byName : Model → Pick
 byName m c n = byField (λ f x. sameBytes (f .name) (x .name)) m c (find n 1 (m .fields))

@@ -11,10 +11,10 @@ use Rattle.meaning.specs.Items.{BatchFault}
 use Rattle.meaning.specs.Text.{decimal, integer, hex, bytes, batchFaultLine, stepFaultLine}
 use Rattle.meaning.specs.File.{decode}
 use Rattle.meaning.specs.Access.{Pick, StepFault}
-use Rattle.meaning.specs.Rows.{Item, nothing, truth, whole, longer, single, doubled, raw, record′, sequence, mapping, Values, rows}
+use Rattle.meaning.specs.Rows.{Values, rows, Literal, nullLiteral, booleanLiteral, intLiteral, longLiteral, floatLiteral, doubleLiteral, bytesLiteral, structLiteral, listLiteral, mapLiteral}
 use Rattle.meaning.specs.Refusals.{converts}
 use Rattle.meaning.specs.Counts.{reached}
-use Rattle.meaning.specs.Law.{Table, adding}
+use Rattle.meaning.specs.Law.{Table, addReaches}
 
 -- what stands between two parts: at the first nothing, in a map a colon before each value, else a comma
 abbrev between : Bool → Bool → Bool → List ℕ
@@ -28,18 +28,18 @@ abbrev flip : Bool → Bool
 flip true = false
 flip false = true
 
-abbrev around : Item → List ℕ → List ℕ → List ℕ
-around nothing inner pairs = codes "null"
-around (truth true) inner pairs = codes "true"
-around (truth false) inner pairs = codes "false"
-around (whole z) inner pairs = integer z
-around (longer z) inner pairs = integer z
-around (single b) inner pairs = hex 8 b
-around (doubled b) inner pairs = hex 16 b
-around (raw bs) inner pairs = codes "." ++ bytes bs
-around record′ inner pairs = codes "{" ++ inner ++ codes "}"
-around sequence inner pairs = codes "[" ++ inner ++ codes "]"
-around mapping inner pairs = codes "<" ++ pairs ++ codes ">"
+abbrev around : Literal → List ℕ → List ℕ → List ℕ
+around nullLiteral inner pairs = codes "null"
+around (booleanLiteral true) inner pairs = codes "true"
+around (booleanLiteral false) inner pairs = codes "false"
+around (intLiteral z) inner pairs = integer z
+around (longLiteral z) inner pairs = integer z
+around (floatLiteral b) inner pairs = hex 8 b
+around (doubleLiteral b) inner pairs = hex 16 b
+around (bytesLiteral bs) inner pairs = codes "." ++ bytes bs
+around structLiteral inner pairs = codes "{" ++ inner ++ codes "}"
+around listLiteral inner pairs = codes "[" ++ inner ++ codes "]"
+around mapLiteral inner pairs = codes "<" ++ pairs ++ codes ">"
 
 -- values side by side
 abbrev pub shown : Bool → Bool → Bool → Values → List ℕ
@@ -57,7 +57,7 @@ nanLines (e ∷ es) = codes "nan " ++ integer (e .id) ++ codes " " ++ decimal (e
 module _ (pick : Model → Pick) where
   abbrev converted : Model → Result ℕ StepFault → List ℕ
   converted m (Err f) = stepFaultLine f ++ (10 ∷ [])
-  converted m (Ok cells) = codes "rows " ++ decimal (m .rows) ++ (10 ∷ rowLines 0 (rows m (pick m))) ++ nanLines (adding m [] (reached m (pick m) .0) (reached m (pick m) .1) .1)
+  converted m (Ok cells) = codes "rows " ++ decimal (m .rows) ++ (10 ∷ rowLines 0 (rows m (pick m))) ++ nanLines (addReaches m [] (reached m (pick m) .0) (reached m (pick m) .1) .1)
 
   abbrev read : Result Model BatchFault → List ℕ
   read (Err r) = batchFaultLine r ++ (10 ∷ [])

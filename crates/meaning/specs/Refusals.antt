@@ -8,7 +8,7 @@ use Rattle.std.specs.declared.result.Result.{Result}
 use Rattle.std.specs.declared.result.Result.the-variants.{Ok, Err}
 use Rattle.meaning.specs.Forest.{Forest, none, tree, size, count}
 use Rattle.meaning.specs.Model.{Model, Field, Shape, prim, struct, list, map, Primitive, boolean, int, long, float, double, date, time, timestamp, timestamptz, timestampNs, timestamptzNs, string, uuid, fixed, binary, Code, bits, words, variable, fixedSizeBinary, structs, lists, largeLists, fixedSizeLists, maps, int32, int64, float32, float64, date32, time64, micros, nanos, utf8, largeUtf8, binaries, largeBinary, at}
-use Rattle.meaning.specs.Slots.{null, cut, upto}
+use Rattle.meaning.specs.Slots.{null, upto, spanSlots}
 use Rattle.meaning.specs.Access.{Pick, StepFault, fault, kids, partner, struct?}
 use Rattle.meaning.specs.Rows.{sameBy, kept}
 
@@ -65,38 +65,38 @@ abbrev pub sum : (ℕ → ℕ) → List ℕ → ℕ
 sum f [] = 0
 sum f (j ∷ js) = f j + sum f js
 
-abbrev pub needs : Forest Field → Bool
-needs none = false
-needs (tree f below rest) = f .required
+abbrev pub firstRequired : Forest Field → Bool
+firstRequired none = false
+firstRequired (tree f below rest) = f .required
 
-abbrev pub second : Forest Field → Forest Field
-second none = none
-second (tree f below rest) = rest
+abbrev pub afterFirst : Forest Field → Forest Field
+afterFirst none = none
+afterFirst (tree f below rest) = rest
 
-abbrev pub shapeOf : Forest Field → Shape
-shapeOf none = struct
-shapeOf (tree f below rest) = f .shape
+abbrev pub firstShape : Forest Field → Shape
+firstShape none = struct
+firstShape (tree f below rest) = f .shape
 
 module _ (m : Model) (pick : Pick) (cells : ℕ) where
   abbrev pub takes : ℕ → ℕ → ℕ → ℕ → Result ℕ StepFault
   takes n c more taken = cond (leb (taken + more) cells) (Ok (taken + more)) (Err (fault 21 c n))
 
   -- a null of column p among the slots that the slots of c that are not null cut out
-  abbrev pub holds : ℕ → ℕ → Bool
-  holds c p = some (λ i. not (null (at m c) i) && some (λ j. null (at m p) j) (cut (at m c) i)) (upto (at m c .len))
+  abbrev pub nullInSpans : ℕ → ℕ → Bool
+  nullInSpans c p = some (λ i. not (null (at m c) i) && some (λ j. null (at m p) j) (spanSlots (at m c) i)) (upto (at m c .len))
 
   -- a type's own step
-  abbrev pub own : Shape → Forest Field → ℕ → ℕ → ℕ → Result ℕ StepFault
-  own (prim p) below n c taken = cond (accepts p (at m c .code)) (takes n c (at m c .len) taken) (Err (fault 14 c n))
-  own struct below n c taken =
+  abbrev pub ownHook : Shape → Forest Field → ℕ → ℕ → ℕ → Result ℕ StepFault
+  ownHook (prim p) below n c taken = cond (accepts p (at m c .code)) (takes n c (at m c .len) taken) (Err (fault 14 c n))
+  ownHook struct below n c taken =
       cond (eqb (count below) 0 && not (struct? m c)) (Err (fault 14 c n)) (takes n c (at m c .len + count below * at m c .len) taken)
-  own list below n c taken = cond (needs below && holds c (getD (kids m c) 0 0)) (Err (fault 16 c n)) (takes n c (at m c .len) taken)
-  own map below n c taken =
+  ownHook list below n c taken = cond (firstRequired below && nullInSpans c (getD (kids m c) 0 0)) (Err (fault 16 c n)) (takes n c (at m c .len) taken)
+  ownHook map below n c taken =
       let p : ℕ = getD (kids m c) 0 0 in
       let q : ℕ = getD (kids m c) 1 0 in
-      cond (holds c p) (Err (fault 19 c n))
-      (cond (needs (second below) && holds c q) (Err (fault 16 c n))
-      (takes n c (at m c .len + 2 * sum (λ i. cond (null (at m c) i) 0 (length (kept (sameBy (shapeOf below) (at m p)) (cut (at m c) i)))) (upto (at m c .len))) taken))
+      cond (nullInSpans c p) (Err (fault 19 c n))
+      (cond (firstRequired (afterFirst below) && nullInSpans c q) (Err (fault 16 c n))
+      (takes n c (at m c .len + 2 * sum (λ i. cond (null (at m c) i) 0 (length (kept (sameBy (firstShape below) (at m p)) (spanSlots (at m c) i)))) (upto (at m c .len))) taken))
 
   -- what `field` refuses: a null of a required field where its struct is not null
   abbrev pub fieldHook : Shape → Field → ℕ → ℕ → ℕ → ℕ → Result ℕ StepFault
@@ -110,15 +110,15 @@ module _ (m : Model) (pick : Pick) (cells : ℕ) where
   chain (Err e) k = Err e
 
   -- the fields of a type of this shape, whose field is up, at column c, from field n on
-  abbrev pub check : Forest Field → Shape → ℕ → ℕ → ℕ → ℕ → Result ℕ StepFault
-  check none s up n c taken = Ok taken
-  check (tree f below rest) s up n c taken =
+  abbrev pub checkFields : Forest Field → Shape → ℕ → ℕ → ℕ → ℕ → Result ℕ StepFault
+  checkFields none s up n c taken = Ok taken
+  checkFields (tree f below rest) s up n c taken =
       chain (partner m pick s up c n)
-      (λ p. chain (check below (f .shape) n (n + 1) p taken)
-      (λ t. chain (own (f .shape) below n p t)
+      (λ p. chain (checkFields below (f .shape) n (n + 1) p taken)
+      (λ t. chain (ownHook (f .shape) below n p t)
       (λ t. chain (fieldHook s f n c p t)
-      (λ t. check rest s up (n + 1 + size below) c t))))
+      (λ t. checkFields rest s up (n + 1 + size below) c t))))
 
   -- the cells that conversion of the schema's struct at column 0 takes, or its refusal
   abbrev pub converts : Result ℕ StepFault
-  converts = chain (check (m .fields) struct 0 1 0 0) (λ t. own struct (m .fields) 0 0 t)
+  converts = chain (checkFields (m .fields) struct 0 1 0 0) (λ t. ownHook struct (m .fields) 0 0 t)

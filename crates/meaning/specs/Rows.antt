@@ -9,53 +9,53 @@ use Rattle.std.specs.declared.option.Option.{Option}
 use Rattle.std.specs.declared.option.Option.the-variants.{Some, None}
 use Rattle.meaning.specs.Forest.{Forest, none, tree, size, beside}
 use Rattle.meaning.specs.Model.{Model, Column, Field, Shape, prim, struct, list, map, Primitive, boolean, int, long, float, double, date, time, timestamp, timestamptz, timestampNs, timestamptzNs, string, uuid, fixed, binary, at}
-use Rattle.meaning.specs.Slots.{null, bit, cut, span, stored, signed, nan32, nan64, upto}
+use Rattle.meaning.specs.Slots.{null, bit, span, stored, signed, nan32, nan64, upto, spanSlots}
 use Rattle.meaning.specs.Access.{Pick, kids}
 
 -- a value without its parts, which stand below it: a struct's fields, a list's elements, a map's keys and values in turn
-pub data Item : Type 0 where
-  nothing : Item
-  truth : Bool → Item
-  whole : ℤ → Item
-  longer : ℤ → Item
-  single : ℕ → Item
-  doubled : ℕ → Item
-  raw : List ℕ → Item
-  record′ : Item
-  sequence : Item
-  mapping : Item
+pub data Literal : Type 0 where
+  nullLiteral : Literal
+  booleanLiteral : Bool → Literal
+  intLiteral : ℤ → Literal
+  longLiteral : ℤ → Literal
+  floatLiteral : ℕ → Literal
+  doubleLiteral : ℕ → Literal
+  bytesLiteral : List ℕ → Literal
+  structLiteral : Literal
+  listLiteral : Literal
+  mapLiteral : Literal
 
 abbrev pub Values : Type 0
-Values = Forest Item
+Values = Forest Literal
 
 abbrev pub bytesAt : Column → ℕ → List ℕ
 bytesAt x i = take (span x i .1 - span x i .0) (drop (span x i .0) (x .body))
 
-abbrev pub literal : Primitive → Column → ℕ → Item
-literal boolean x i = truth (bit (x .body) i)
-literal int x i = whole (signed 4 (stored 4 (x .body) i))
-literal long x i = longer (signed 8 (stored 8 (x .body) i))
-literal float x i = single (stored 4 (x .body) i)
-literal double x i = doubled (stored 8 (x .body) i)
-literal date x i = whole (signed 4 (stored 4 (x .body) i))
-literal time x i = longer (signed 8 (stored 8 (x .body) i))
-literal timestamp x i = longer (signed 8 (stored 8 (x .body) i))
-literal timestamptz x i = longer (signed 8 (stored 8 (x .body) i))
-literal timestampNs x i = longer (signed 8 (stored 8 (x .body) i))
-literal timestamptzNs x i = longer (signed 8 (stored 8 (x .body) i))
-literal string x i = raw (bytesAt x i)
-literal uuid x i = raw (bytesAt x i)
-literal (fixed n) x i = raw (bytesAt x i)
-literal binary x i = raw (bytesAt x i)
+abbrev pub primitiveLiteral : Primitive → Column → ℕ → Literal
+primitiveLiteral boolean x i = booleanLiteral (bit (x .body) i)
+primitiveLiteral int x i = intLiteral (signed 4 (stored 4 (x .body) i))
+primitiveLiteral long x i = longLiteral (signed 8 (stored 8 (x .body) i))
+primitiveLiteral float x i = floatLiteral (stored 4 (x .body) i)
+primitiveLiteral double x i = doubleLiteral (stored 8 (x .body) i)
+primitiveLiteral date x i = intLiteral (signed 4 (stored 4 (x .body) i))
+primitiveLiteral time x i = longLiteral (signed 8 (stored 8 (x .body) i))
+primitiveLiteral timestamp x i = longLiteral (signed 8 (stored 8 (x .body) i))
+primitiveLiteral timestamptz x i = longLiteral (signed 8 (stored 8 (x .body) i))
+primitiveLiteral timestampNs x i = longLiteral (signed 8 (stored 8 (x .body) i))
+primitiveLiteral timestamptzNs x i = longLiteral (signed 8 (stored 8 (x .body) i))
+primitiveLiteral string x i = bytesLiteral (bytesAt x i)
+primitiveLiteral uuid x i = bytesLiteral (bytesAt x i)
+primitiveLiteral (fixed n) x i = bytesLiteral (bytesAt x i)
+primitiveLiteral binary x i = bytesLiteral (bytesAt x i)
 
-abbrev pub itemBy : Shape → Column → ℕ → Item
-itemBy (prim p) x i = literal p x i
-itemBy struct x i = record′
-itemBy list x i = sequence
-itemBy map x i = mapping
+abbrev pub literalBy : Shape → Column → ℕ → Literal
+literalBy (prim p) x i = primitiveLiteral p x i
+literalBy struct x i = structLiteral
+literalBy list x i = listLiteral
+literalBy map x i = mapLiteral
 
-abbrev pub item : Shape → Column → ℕ → Item
-item s x i = cond (null x i) nothing (itemBy s x i)
+abbrev pub literalAt : Shape → Column → ℕ → Literal
+literalAt s x i = cond (null x i) nullLiteral (literalBy s x i)
 
 abbrev pub sameBytes : List ℕ → List ℕ → Bool
 sameBytes [] [] = true
@@ -138,18 +138,18 @@ module _ (m : Model) (pick : Pick) where
   parts (tree f below rest) (prim p) n c i = none
   parts (tree f below rest) struct n c i =
       let p : ℕ = orZero (pick c n) in
-      tree (item (f .shape) (at m p) i) (cond (null (at m p) i) none (parts below (f .shape) (n + 1) p i)) (parts rest struct (n + 1 + size below) c i)
+      tree (literalAt (f .shape) (at m p) i) (cond (null (at m p) i) none (parts below (f .shape) (n + 1) p i)) (parts rest struct (n + 1 + size below) c i)
   parts (tree f below rest) list n c i =
       let p : ℕ = getD (kids m c) 0 0 in
-      joined (λ j. tree (item (f .shape) (at m p) j) (cond (null (at m p) j) none (parts below (f .shape) (n + 1) p j)) none) (cut (at m c) i)
+      joined (λ j. tree (literalAt (f .shape) (at m p) j) (cond (null (at m p) j) none (parts below (f .shape) (n + 1) p j)) none) (spanSlots (at m c) i)
   parts (tree f below none) map n c i = none
   parts (tree f below (tree g under rest)) map n c i =
       let p : ℕ = getD (kids m c) 0 0 in
       let q : ℕ = getD (kids m c) 1 0 in
-      joined (λ (kv : ℕ × ℕ). tree (item (f .shape) (at m p) (kv .0)) none (tree (item (g .shape) (at m q) (kv .1)) (cond (null (at m q) (kv .1)) none (parts under (g .shape) (n + 1 + size below + 1) q (kv .1))) none)) (kept (sameBy (f .shape) (at m p)) (cut (at m c) i))
+      joined (λ (kv : ℕ × ℕ). tree (literalAt (f .shape) (at m p) (kv .0)) none (tree (literalAt (g .shape) (at m q) (kv .1)) (cond (null (at m q) (kv .1)) none (parts under (g .shape) (n + 1 + size below + 1) q (kv .1))) none)) (kept (sameBy (f .shape) (at m p)) (spanSlots (at m c) i))
 
   abbrev pub row : ℕ → Values
-  row i = tree record′ (parts (m .fields) struct 1 0 i) none
+  row i = tree structLiteral (parts (m .fields) struct 1 0 i) none
 
   abbrev pub rows : Values
   rows = joined row (upto (m .rows))

@@ -13,13 +13,13 @@ use Rattle.meaning.specs.Model.{Column, Code, Word, int32, int64, float32, flo
 abbrev pub bit : List ℕ → ℕ → Bool
 bit bs i = eqb (getD bs (i / 8) 0 / 2 ^ (i % 8) % 2) 1
 
-abbrev pub nullIn : Option (List ℕ) → ℕ → Bool
-nullIn None i = false
-nullIn (Some bs) i = not (bit bs i)
+abbrev pub unset : Option (List ℕ) → ℕ → Bool
+unset None i = false
+unset (Some bs) i = not (bit bs i)
 
 -- a slot is null where the column has it, has validity bits, and its bit is 0
 abbrev pub null : Column → ℕ → Bool
-null x i = ltb i (x .len) && nullIn (x .validity) i
+null x i = ltb i (x .len) && unset (x .validity) i
 
 abbrev pub upto : ℕ → List ℕ
 upto zero = []
@@ -45,8 +45,8 @@ abbrev pub span : Column → ℕ → ℕ × ℕ
 span x i = spanBy (x .code) (x .offsets) i
 
 -- the slots of the child that slot i cuts out
-abbrev pub cut : Column → ℕ → List ℕ
-cut x i = from (span x i .0) (span x i .1 - span x i .0)
+abbrev pub spanSlots : Column → ℕ → List ℕ
+spanSlots x i = from (span x i .0) (span x i .1 - span x i .0)
 
 -- low byte first
 abbrev pub little : List ℕ → ℕ

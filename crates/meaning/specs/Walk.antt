@@ -22,12 +22,12 @@ abbrev pub refuse : {S X : Type 0} → StepFault → Step S X
 refuse e s = (Err e, s)
 
 -- the first refusal ends it
-abbrev pub carry : {S X Y : Type 0} → (X → Step S Y) → Result X StepFault × S → Result Y StepFault × S
-carry f (Ok x, s) = f x s
-carry f (Err e, s) = (Err e, s)
+abbrev pub bindResult : {S X Y : Type 0} → (X → Step S Y) → Result X StepFault × S → Result Y StepFault × S
+bindResult f (Ok x, s) = f x s
+bindResult f (Err e, s) = (Err e, s)
 
 abbrev pub bind : {S X Y : Type 0} → Step S X → (X → Step S Y) → Step S Y
-bind m f s = carry f (m s)
+bind m f s = bindResult f (m s)
 
 -- what a field is to the type that holds it
 pub data Role : Type 0 where
@@ -66,12 +66,12 @@ typeAt m zero = Some (struct, m .fields)
 typeAt m (suc n) = typeOf (fieldAt m (suc n))
 
 -- a number that names no column
-abbrev pub nowhere : Option (Column × Forest Column) → Bool
-nowhere None = true
-nowhere (Some x) = false
+abbrev pub absentColumn : Option (Column × Forest Column) → Bool
+absentColumn None = true
+absentColumn (Some x) = false
 
 abbrev pub missing : Model → ℕ → Bool
-missing m c = nowhere (column m c)
+missing m c = absentColumn (column m c)
 
 module _ {S T : Type 0} (h : Hooks S T) where
   -- a type's own hook, on the results of the fields that it holds; a list holds one and a map two
@@ -107,9 +107,9 @@ module _ {S T : Type 0} (m : Model) (pick : Pick) (h : Hooks S T) where
       (λ ts. ret (t′ ∷ ts))))))
 
   -- the type of field n, which has this shape and holds these fields, at column c
-  abbrev pub visits : Shape → Forest Field → ℕ → ℕ → Step S T
-  visits s below n c = bind (walk below s n (n + 1) c) (close h s n c)
+  abbrev pub visitType : Shape → Forest Field → ℕ → ℕ → Step S T
+  visitType s below n c = bind (walk below s n (n + 1) c) (close h s n c)
 
   -- the schema's struct at column c
-  abbrev pub visitsStruct : ℕ → Step S T
-  visitsStruct c = visits struct (m .fields) 0 c
+  abbrev pub visitStruct : ℕ → Step S T
+  visitStruct c = visitType struct (m .fields) 0 c
