@@ -1,7 +1,7 @@
 -- What an accepted conversion tells of each step.
 use mathlib.Core.Path.{_≡_, refl, sym, ap, _∙_, subst}
 use mathlib.Core.List.{List}
-use mathlib.Core.Bool.{Bool, true, false, cond, not, _&&_}
+use mathlib.Core.Bool.{Bool, true, false, cond, not, _&&_, _||_}
 use mathlib.Core.Logic.{⊎-elim}
 use Prim.Native.Nat.{ℕ, _+_}
 use native.Mathlib.Omega.{arith}
@@ -16,9 +16,10 @@ use Rattle.meaning.specs.Forest.{Forest, none, tree, size}
 use Rattle.meaning.specs.Model.{Model, Column, Field, Shape, prim, struct, list, map, Primitive, boolean, int, long, float, double, date, time, timestamp, timestamptz, timestampNs, timestamptzNs, string, uuid, fixed, binary, Code, bits, words, variable, fixedSizeBinary, structs, lists, largeLists, fixedSizeLists, maps, int32, int64, float32, float64, date32, time64, micros, nanos, utf8, largeUtf8, binaries, largeBinary, at}
 use Rattle.meaning.specs.Slots.{null, nan, nanBy}
 use Rattle.meaning.specs.Access.{Pick, StepFault, fault, kids, partner, struct?, list?, map?, isStruct, isList, isMap, orRefused}
-use Rattle.meaning.specs.Rows.{orZero, nullLiteral, literalBy, literalAt}
-use Rattle.meaning.specs.Refusals.{codeOf, is, or, accepts, takes, fieldHook, chain, ownHook, checkFields}
-use Rattle.meaning.specs.Counts.{nanLiteral}
+use Rattle.meaning.specs.Lists.{orZero}
+use Rattle.meaning.specs.Rows.{nullLiteral, literalBy, literalAt}
+use Rattle.meaning.specs.Converts.{codeOf, is, accepts, takes, fieldHook, chain, ownHook, checkFields}
+use Rattle.meaning.specs.Reaches.{nanLiteral}
 use Rattle.meaning.proofs.Enough.{Holds}
 
 -- a code by its number holds no NaN, or holds those of its width
@@ -89,7 +90,7 @@ is-code k n w e = eqb-true (codeOf k .0) n (and-parts (eqb (codeOf k .0) n) (eqb
 no-nan-is : (k : Code) (n w : ℕ) (body : List ℕ) (i : ℕ) → (n ≡ 4 → ⊥) → (n ≡ 5 → ⊥) → is k n w ≡ true → nanBy k body i ≡ false
 no-nan-is k n w body i a b e = no-nan k body i (λ h. a (sym (is-code k n w e) ∙ h)) (λ h. b (sym (is-code k n w e) ∙ h))
 
-or-is : (k : Code) (n l : ℕ) (body : List ℕ) (i : ℕ) → (n ≡ 4 → ⊥) → (n ≡ 5 → ⊥) → (l ≡ 4 → ⊥) → (l ≡ 5 → ⊥) → or (is k n 0) (is k l 0) ≡ true → nanBy k body i ≡ false
+or-is : (k : Code) (n l : ℕ) (body : List ℕ) (i : ℕ) → (n ≡ 4 → ⊥) → (n ≡ 5 → ⊥) → (l ≡ 4 → ⊥) → (l ≡ 5 → ⊥) → (is k n 0 || is k l 0) ≡ true → nanBy k body i ≡ false
 or-is k n l body i a b c d e = ⊎-elim (no-nan-is k n 0 body i a b) (no-nan-is k l 0 body i c d) (grind arith)
 
 -- a primitive's slots hold what the column says

@@ -11,7 +11,8 @@ use lib.ListN.{length}
 use Rattle.std.specs.declared.option.Option.{Option}
 use Rattle.std.specs.declared.option.Option.the-variants.{Some, None}
 use Rattle.std.proofs.shelf.Tests.{cases-bool}
-use Rattle.meaning.specs.Law.{Table, same, added, sumOf, mentions, saturated, countOf, hasId, distinctIds}
+use Rattle.meaning.specs.Equal.{sameInteger}
+use Rattle.meaning.specs.CounterLaw.{Table, added, sumOf, mentions, saturated, countOf, hasId, distinctIds}
 use Rattle.meaning.proofs.Ids.{same-self, same-eq}
 use Rattle.meaning.proofs.Tables.{Ascending, ascending-added, plus, counted-added, length-added, without, ascending-without, length-without, counted-without, has-counted, has-without, length-had}
 
@@ -35,7 +36,7 @@ length-folded t (x ∷ xs) = omega (arith, length-added t (x .0) (x .1), length-
 -- the count under one id, through the additions
 abbrev counts : Option ℕ → ℤ → List (ℤ × ℕ) → Option ℕ
 counts o q [] = o
-counts o q (x ∷ xs) = counts (cond (same q (x .0)) (plus o (x .1)) o) q xs
+counts o q (x ∷ xs) = counts (cond (sameInteger q (x .0)) (plus o (x .1)) o) q xs
 
 counted-folded : (t : Table) (xs : List (ℤ × ℕ)) (q : ℤ) → Ascending t → countOf (folded t xs) q ≡ counts (countOf t q) q xs
 counted-folded t [] q k = refl
@@ -50,7 +51,7 @@ held-part a b = omega arith
 counts-held : (n : ℕ) (q : ℤ) (xs : List (ℤ × ℕ)) → counts (Some (saturated n)) q xs ≡ Some (saturated (n + sumOf q xs))
 counts-held n q [] = rw add-zero
 counts-held n q (x ∷ xs) =
-    elim (cases-bool (same q (x .0))) [
+    elim (cases-bool (sameInteger q (x .0))) [
       | inl s ↦ rw (s, held-part n (x .1), ← (add-assoc n (x .1) (sumOf q xs))) (counts-held (n + x .1) q xs)
       | inr s ↦ rw (s, zero-add (sumOf q xs)) (counts-held n q xs)
     ]
@@ -58,7 +59,7 @@ counts-held n q (x ∷ xs) =
 counts-none : (q : ℤ) (xs : List (ℤ × ℕ)) → counts None q xs ≡ cond (mentions q xs) (Some (saturated (sumOf q xs))) None
 counts-none q [] = refl
 counts-none q (x ∷ xs) =
-    elim (cases-bool (same q (x .0))) [
+    elim (cases-bool (sameInteger q (x .0))) [
       | inl s ↦ rw s (counts-held (x .1) q xs)
       | inr s ↦ rw (s, zero-add (sumOf q xs)) (counts-none q xs)
     ]
@@ -69,7 +70,7 @@ sum-folded xs q = counted-folded [] xs q tt ∙ counts-none q xs
 
 -- a repeated id mentions nothing new
 repeated : (q : ℤ) (x : ℤ × ℕ) (xs : List (ℤ × ℕ)) → mentions (x .0) xs ≡ true → mentions q xs ≡ false → mentions q (x ∷ xs) ≡ false
-repeated q x xs m h = elim (cases-bool (same q (x .0))) [ inl s ↦ rw s (sym m ∙ rw (same-eq q (x .0) s) at h) | inr s ↦ rw s h ]
+repeated q x xs m h = elim (cases-bool (sameInteger q (x .0))) [ inl s ↦ rw s (sym m ∙ rw (same-eq q (x .0) s) at h) | inr s ↦ rw s h ]
 
 -- a table whose ids are all mentioned is no longer than there are ids
 few-entries : (t : Table) (xs : List (ℤ × ℕ)) → Ascending t → ((q : ℤ) → mentions q xs ≡ false → countOf t q ≡ None) → length t ≤ distinctIds xs
@@ -84,7 +85,7 @@ few-entries t (x ∷ xs) k only =
     ]
   where
     left : (q : ℤ) → mentions q xs ≡ false → countOf (without t (x .0)) q ≡ None
-    left q h = counted-without t (x .0) q k ∙ elim (cases-bool (same q (x .0))) [ inl s ↦ rw s | inr s ↦ rw s (only q (rw s h)) ]
+    left q h = counted-without t (x .0) q k ∙ elim (cases-bool (sameInteger q (x .0))) [ inl s ↦ rw s | inr s ↦ rw s (only q (rw s h)) ]
 
 pub length-distinct : (xs : List (ℤ × ℕ)) → length (folded [] xs) ≤ distinctIds xs
 length-distinct xs = few-entries (folded [] xs) xs (ascending-folded [] xs tt) (λ q h. rw h at (sum-folded xs q))
@@ -99,11 +100,11 @@ all-entries t (x ∷ xs) all =
     ]
   where
     more : (q : ℤ) → mentions q xs ≡ true → hasId t q ≡ true
-    more q h = all q (elim (cases-bool (same q (x .0))) [ inl s ↦ rw s | inr s ↦ rw s h ])
+    more q h = all q (elim (cases-bool (sameInteger q (x .0))) [ inl s ↦ rw s | inr s ↦ rw s h ])
 
     left : mentions (x .0) xs ≡ false → (q : ℤ) → mentions q xs ≡ true → hasId (without t (x .0)) q ≡ true
     left m q h =
-        elim (cases-bool (same q (x .0))) [
+        elim (cases-bool (sameInteger q (x .0))) [
           | inl s ↦ let z : mentions (x .0) xs ≡ true = rw (same-eq q (x .0) s) at h in cc
           | inr s ↦ has-without t (x .0) q s ∙ more q h
         ]
@@ -118,7 +119,7 @@ sumOf-both q (x ∷ xs) ys = let ih = sumOf-both q xs ys in omega arith
 
 pub mentions-both : (q : ℤ) (xs ys : List (ℤ × ℕ)) → mentions q (xs ++ ys) ≡ (mentions q xs || mentions q ys)
 mentions-both q [] ys = refl
-mentions-both q (x ∷ xs) ys = elim (cases-bool (same q (x .0))) [ inl s ↦ rw s | inr s ↦ rw s (mentions-both q xs ys) ]
+mentions-both q (x ∷ xs) ys = elim (cases-bool (sameInteger q (x .0))) [ inl s ↦ rw s | inr s ↦ rw s (mentions-both q xs ys) ]
 
 or-turn : (a b c : Bool) → (a || (b || c)) ≡ (b || (a || c))
 or-turn true true c = refl

@@ -8,11 +8,11 @@ use Rattle.std.specs.declared.result.Result.the-variants.{Ok, Err}
 use Rattle.meaning.specs.Model.{Model}
 use Rattle.meaning.specs.Access.{Pick, Own, StepFault}
 use Rattle.meaning.specs.Rows.{rows}
-use Rattle.meaning.specs.Refusals.{converts}
+use Rattle.meaning.specs.Converts.{converts}
 use Rattle.meaning.proofs.Enough.{Enough}
 use Rattle.meaning.proofs.Formed.{Filed}
 use Rattle.meaning.specs.Walk.{Hooks, visitStruct}
-use Rattle.meaning.specs.Ideal.{Value, listed, converter, conversion}
+use Rattle.meaning.specs.Converter.{Value, listed, converter, conversion}
 use Rattle.meaning.proofs.Alongside.{Ties, Both, Alongside}
 use Rattle.meaning.proofs.Converting.{converted}
 use Rattle.meaning.proofs.Beside.{both-struct}

@@ -12,11 +12,13 @@ use Rattle.std.specs.declared.result.Result.the-variants.{Ok}
 use Rattle.std.proofs.shelf.Tests.{eq-eqb, ne-eqb}
 use Rattle.meaning.specs.Forest.{Forest, none, tree, size}
 use Rattle.meaning.specs.Model.{Model, Field, Shape, prim, struct, list, map, at}
-use Rattle.meaning.specs.Slots.{null, nan, span, from, upto, spanSlots}
+use Rattle.meaning.specs.Lists.{upto, from, anyOf, orZero}
+use Rattle.meaning.specs.Slots.{null, nan, span, spanSlots}
 use Rattle.meaning.specs.Access.{Pick, Own, kids, partner}
-use Rattle.meaning.specs.Rows.{Values, sameBy, anyOf, kept, joined, orZero, parts, Literal, literalAt}
-use Rattle.meaning.specs.Refusals.{checkFields}
-use Rattle.meaning.specs.Counts.{sameId, reaches, nansIn, nanLiteral, shownWithin, sumElements, sumPairs}
+use Rattle.meaning.specs.Rows.{Values, sameBy, kept, joined, parts, Literal, literalAt}
+use Rattle.meaning.specs.Converts.{checkFields}
+use Rattle.meaning.specs.Equal.{sameInteger}
+use Rattle.meaning.specs.Reaches.{reaches, nansIn, nanLiteral, shownWithin, sumElements, sumPairs}
 use Rattle.meaning.proofs.Enough.{Plain, Holds, Shaped, Enough}
 use Rattle.meaning.proofs.Keys.{same-alike}
 use Rattle.meaning.proofs.Totals.{sumTo, total, anyTo, any-upto, sum-ext, sum-none, sum-add, sum-cond, Cuts, hit, sum-cuts}
@@ -89,7 +91,7 @@ module _ (m : Model) (pick : Pick) (id : ℤ) where
 
   -- the shown NaNs of field f's own reach, at column p
   abbrev ownNans : Field → ℕ → (ℕ → Bool) → ℕ
-  ownNans f p shown = cond (sameId id (f .id)) (sumTo (at m p .len) (λ i. cond (nan (at m p) i && shown i) 1 0)) 0
+  ownNans f p shown = cond (sameInteger id (f .id)) (sumTo (at m p .len) (λ i. cond (nan (at m p) i && shown i) 1 0)) 0
 
   -- column p says what the values of field f say
   abbrev Faithful : Field → ℕ → Type 0
@@ -108,22 +110,22 @@ module _ (m : Model) (pick : Pick) (id : ℤ) where
   -- what slot j of column p counts for, as a value of field f
   abbrev worth : Field → Forest Field → ℕ → ℕ → ℕ → ℕ
   worth f below n p j =
-      cond (sameId id (f .id) && nanLiteral (literalAt (f .shape) (at m p) j)) 1 0
+      cond (sameInteger id (f .id) && nanLiteral (literalAt (f .shape) (at m p) j)) 1 0
       + nansIn id below (f .shape) (cond (null (at m p) j) none (parts m pick below (f .shape) (n + 1) p j))
 
   -- a field's column: its own reach and those below it
   module _ (f : Field) (below : Forest Field) (n p : ℕ) (shown : ℕ → Bool) (e : Faithful f p) where
     field-slot : (j : ℕ)
-        → cond (live p shown j) (nansIn id below (f .shape) (parts m pick below (f .shape) (n + 1) p j)) 0 + cond (sameId id (f .id)) (cond (nan (at m p) j && shown j) 1 0) 0
+        → cond (live p shown j) (nansIn id below (f .shape) (parts m pick below (f .shape) (n + 1) p j)) 0 + cond (sameInteger id (f .id)) (cond (nan (at m p) j && shown j) 1 0) 0
         ≡ cond (shown j) (worth f below n p j) 0
     field-slot j =
         let ps : Values = parts m pick below (f .shape) (n + 1) p j in
-        ap (λ (v : Bool). cond (live p shown j) (nansIn id below (f .shape) ps) 0 + cond (sameId id (f .id)) (cond (v && shown j) 1 0) 0) (e j)
-        ∙ slot-sum (sameId id (f .id)) (null (at m p) j) (shown j) (nanLiteral (literalAt (f .shape) (at m p) j)) ps (nansIn id below (f .shape)) (nans-none id below (f .shape))
+        ap (λ (v : Bool). cond (live p shown j) (nansIn id below (f .shape) ps) 0 + cond (sameInteger id (f .id)) (cond (v && shown j) 1 0) 0) (e j)
+        ∙ slot-sum (sameInteger id (f .id)) (null (at m p) j) (shown j) (nanLiteral (literalAt (f .shape) (at m p) j)) ps (nansIn id below (f .shape)) (nans-none id below (f .shape))
 
     field-sum : inParts below (f .shape) (n + 1) p shown + ownNans f p shown ≡ sumTo (at m p .len) (λ j. cond (shown j) (worth f below n p j) 0)
     field-sum =
-        ap (λ k. inParts below (f .shape) (n + 1) p shown + k) (sym (sum-cond (sameId id (f .id)) (at m p .len) (λ i. cond (nan (at m p) i && shown i) 1 0)))
+        ap (λ k. inParts below (f .shape) (n + 1) p shown + k) (sym (sum-cond (sameInteger id (f .id)) (at m p .len) (λ i. cond (nan (at m p) i && shown i) 1 0)))
         ∙ (sum-add (at m p .len) _ _ ∙ sum-ext (at m p .len) _ _ (λ j h. field-slot j))
 
   -- a slot that is cut, as the counts say it and as a sum over the slots that cut
@@ -168,7 +170,7 @@ module _ (m : Model) (pick : Pick) (id : ℤ) where
 
     list-parts : (i : ℕ) → total (worth f below n child) (spanSlots (at m c) i) ≡ nansIn id (tree f below rest) list (parts m pick (tree f below rest) list n c i)
     list-parts i =
-        sym (each-joined (λ x ps. cond (sameId id (f .id) && nanLiteral x) 1 0 + nansIn id below (f .shape) ps) (λ j. literalAt (f .shape) (at m child) j)
+        sym (each-joined (λ x ps. cond (sameInteger id (f .id) && nanLiteral x) 1 0 + nansIn id below (f .shape) ps) (λ j. literalAt (f .shape) (at m child) j)
         (λ j. cond (null (at m child) j) none (parts m pick below (f .shape) (n + 1) child j)) (spanSlots (at m c) i))
 
     list-sum : inParts below (f .shape) (n + 1) child (shownWithin m pick c shown any?) + ownNans f child (shownWithin m pick c shown any?) ≡ inParts (tree f below rest) list n c shown
@@ -209,9 +211,9 @@ module _ (m : Model) (pick : Pick) (id : ℤ) where
     vals = shownWithin m pick c shown (last? alike)
 
     -- a key has no parts
-    key-worth : (j : ℕ) → cond (sameId id (f .id) && nanLiteral (literalAt (f .shape) (at m keyed) j)) 1 0 + nansIn id below (f .shape) none ≡ worth f below n keyed j
+    key-worth : (j : ℕ) → cond (sameInteger id (f .id) && nanLiteral (literalAt (f .shape) (at m keyed) j)) 1 0 + nansIn id below (f .shape) none ≡ worth f below n keyed j
     key-worth j =
-        ap (λ k. cond (sameId id (f .id) && nanLiteral (literalAt (f .shape) (at m keyed) j)) 1 0 + k)
+        ap (λ k. cond (sameInteger id (f .id) && nanLiteral (literalAt (f .shape) (at m keyed) j)) 1 0 + k)
         (nans-none id below (f .shape) ∙ sym (nans-plain id below (f .shape) (cond (null (at m keyed) j) none (parts m pick below (f .shape) (n + 1) keyed j)) plain))
 
     -- the pairs of one slot
@@ -219,7 +221,7 @@ module _ (m : Model) (pick : Pick) (id : ℤ) where
         → nansIn id (tree f below (tree g under′ rest)) map (parts m pick (tree f below (tree g under′ rest)) map n c i)
         ≡ total (λ (kv : ℕ × ℕ). worth f below n keyed (kv .0) + worth g under′ later valued (kv .1)) (kept alike (spanSlots (at m c) i))
     map-parts i =
-        pairs-joined (λ x ps. cond (sameId id (f .id) && nanLiteral x) 1 0 + nansIn id below (f .shape) ps) (λ x ps. cond (sameId id (g .id) && nanLiteral x) 1 0 + nansIn id under′ (g .shape) ps)
+        pairs-joined (λ x ps. cond (sameInteger id (f .id) && nanLiteral x) 1 0 + nansIn id below (f .shape) ps) (λ x ps. cond (sameInteger id (g .id) && nanLiteral x) 1 0 + nansIn id under′ (g .shape) ps)
         (λ (kv : ℕ × ℕ). literalAt (f .shape) (at m keyed) (kv .0)) (λ (kv : ℕ × ℕ). literalAt (g .shape) (at m valued) (kv .1)) (λ kv. none)
         (λ (kv : ℕ × ℕ). cond (null (at m valued) (kv .1)) none (parts m pick under′ (g .shape) (later + 1) valued (kv .1))) (kept alike (spanSlots (at m c) i))
         ∙ total-ext _ _ (λ (kv : ℕ × ℕ). ap (λ k. k + worth g under′ later valued (kv .1)) (key-worth (kv .0))) (kept alike (spanSlots (at m c) i))

@@ -16,18 +16,19 @@ use Rattle.std.proofs.shelf.Ways.{tells}
 use Rattle.std.proofs.shelf.Tests.{cases-bool, eqb-true, eq-eqb, le-leb}
 use Rattle.meaning.specs.Model.{Model}
 use Rattle.meaning.specs.Access.{fault}
-use Rattle.meaning.specs.Counts.{Reach, sameId, float?, nans}
-use Rattle.meaning.specs.Law.{Table, below, added, Answer, saturated, countOf, hasId, addReaches}
+use Rattle.meaning.specs.Equal.{sameInteger}
+use Rattle.meaning.specs.Reaches.{Reach, float?, nans}
+use Rattle.meaning.specs.CounterLaw.{Table, below, added, Answer, saturated, countOf, hasId, addReaches}
 use Rattle.meaning.proofs.Nans.{reachSum, nans-dull}
 
 -- ids are in a line
-id-same : (a b : ℤ) → sameId a b ≡ true → a ≡ b
+id-same : (a b : ℤ) → sameInteger a b ≡ true → a ≡ b
 id-same (pos a) (pos b) e = ap pos (eqb-true a b e)
 id-same (pos a) (negsuc b) e = cc
 id-same (negsuc a) (pos b) e = cc
 id-same (negsuc a) (negsuc b) e = ap negsuc (eqb-true a b e)
 
-id-self : (a : ℤ) → sameId a a ≡ true
+id-self : (a : ℤ) → sameInteger a a ≡ true
 id-self (pos a) = eq-eqb a a refl
 id-self (negsuc a) = eq-eqb a a refl
 
@@ -40,13 +41,13 @@ id-join (negsuc a) (pos b) (negsuc c) e f = cc
 id-join (negsuc a) (negsuc b) (pos c) e f = refl
 id-join (negsuc a) (negsuc b) (negsuc c) e f = grind (arith, tells)
 
-id-apart : (a b : ℤ) → below a b ≡ true → sameId a b ≡ false
+id-apart : (a b : ℤ) → below a b ≡ true → sameInteger a b ≡ false
 id-apart (pos a) (pos b) e = grind (arith, tells)
 id-apart (pos a) (negsuc b) e = refl
 id-apart (negsuc a) (pos b) e = refl
 id-apart (negsuc a) (negsuc b) e = grind (arith, tells)
 
-id-above : (a b : ℤ) → sameId a b ≡ false → below a b ≡ false → below b a ≡ true
+id-above : (a b : ℤ) → sameInteger a b ≡ false → below a b ≡ false → below b a ≡ true
 id-above (pos a) (pos b) e f = grind (arith, tells)
 id-above (pos a) (negsuc b) e f = refl
 id-above (negsuc a) (pos b) e f = cc
@@ -73,7 +74,7 @@ absent i (e ∷ es) h = ap (λ (b : Bool). cond b (Some (e .count)) (countOf es 
 module _ (i : ℤ) (n : ℕ) where
   above-added : (k : ℤ) (t : Table) → below k i ≡ true → Above k t → Above k (added t i n)
   above-added k [] e h = (e, tt)
-  above-added k (x ∷ xs) e h = pass (sameId i (x .id)) (below i (x .id)) (above-added k xs e (h .1))
+  above-added k (x ∷ xs) e h = pass (sameInteger i (x .id)) (below i (x .id)) (above-added k xs e (h .1))
     where
       pass : (b d : Bool) → Above k (added xs i n)
           → Above k (cond b (record { id = i; count = saturated (x .count + n) } ∷ xs) (cond d (record { id = i; count = saturated n } ∷ (x ∷ xs)) (x ∷ added xs i n)))
@@ -83,9 +84,9 @@ module _ (i : ℤ) (n : ℕ) where
 
   sorted-added : (t : Table) → Sorted t → Sorted (added t i n)
   sorted-added [] h = (tt, tt)
-  sorted-added (x ∷ xs) h = pass (sameId i (x .id)) (below i (x .id)) refl refl (sorted-added xs (h .1))
+  sorted-added (x ∷ xs) h = pass (sameInteger i (x .id)) (below i (x .id)) refl refl (sorted-added xs (h .1))
     where
-      pass : (b d : Bool) → sameId i (x .id) ≡ b → below i (x .id) ≡ d → Sorted (added xs i n)
+      pass : (b d : Bool) → sameInteger i (x .id) ≡ b → below i (x .id) ≡ d → Sorted (added xs i n)
           → Sorted (cond b (record { id = i; count = saturated (x .count + n) } ∷ xs) (cond d (record { id = i; count = saturated n } ∷ (x ∷ xs)) (x ∷ added xs i n)))
       pass true d e f r = (subst (λ (j : ℤ). Above j xs) (sym (id-same i (x .id) e)) (h .0), h .1)
       pass false true e f r = ((f, above-join i (x .id) xs f (h .0)), h)
@@ -93,7 +94,7 @@ module _ (i : ℤ) (n : ℕ) where
 
   length-added : (t : Table) → length (added t i n) ≤ length t + 1
   length-added [] = omega arith
-  length-added (x ∷ xs) = pass (sameId i (x .id)) (below i (x .id)) (length-added xs)
+  length-added (x ∷ xs) = pass (sameInteger i (x .id)) (below i (x .id)) (length-added xs)
     where
       pass : (b d : Bool) → length (added xs i n) ≤ length xs + 1
           → length (cond b (record { id = i; count = saturated (x .count + n) } ∷ xs) (cond d (record { id = i; count = saturated n } ∷ (x ∷ xs)) (x ∷ added xs i n))) ≤ length (x ∷ xs) + 1
@@ -124,28 +125,28 @@ module _ (i j : ℤ) (n : ℕ) where
   at-back u true x o r k e h = rw (e refl) refl
   at-back u false x o r k e h = h
 
-  elsewhere : (x : ℤ) → sameId i x ≡ false → sameId j x ≡ true → sameId j i ≡ false
-  elsewhere x e f = ⊎-elim (λ t. absurd (clash (sym (subst (λ (a : ℤ). sameId a x ≡ true) (id-same j i t) f) ∙ e))) (λ k. k) (cases-bool (sameId j i))
+  elsewhere : (x : ℤ) → sameInteger i x ≡ false → sameInteger j x ≡ true → sameInteger j i ≡ false
+  elsewhere x e f = ⊎-elim (λ t. absurd (clash (sym (subst (λ (a : ℤ). sameInteger a x ≡ true) (id-same j i t) f) ∙ e))) (λ k. k) (cases-bool (sameInteger j i))
     where
       clash : true ≡ false → ⊥
       clash h = let z : _≡_ {A = ℕ} 0 1 = cc in omega arith
 
-  counted-added : (t : Table) → Sorted t → orNought (countOf (added t i n) j) ≡ cond (sameId j i) (saturated (orNought (countOf t i) + n)) (orNought (countOf t j))
-  counted-added [] h = rw zero-add (some-cond (sameId j i) (saturated n) None)
-  counted-added (x ∷ xs) h = pass (sameId i (x .id)) (below i (x .id)) refl refl (counted-added xs (h .1))
+  counted-added : (t : Table) → Sorted t → orNought (countOf (added t i n) j) ≡ cond (sameInteger j i) (saturated (orNought (countOf t i) + n)) (orNought (countOf t j))
+  counted-added [] h = rw zero-add (some-cond (sameInteger j i) (saturated n) None)
+  counted-added (x ∷ xs) h = pass (sameInteger i (x .id)) (below i (x .id)) refl refl (counted-added xs (h .1))
     where
-      pass : (b d : Bool) → sameId i (x .id) ≡ b → below i (x .id) ≡ d → orNought (countOf (added xs i n) j) ≡ cond (sameId j i) (saturated (orNought (countOf xs i) + n)) (orNought (countOf xs j))
+      pass : (b d : Bool) → sameInteger i (x .id) ≡ b → below i (x .id) ≡ d → orNought (countOf (added xs i n) j) ≡ cond (sameInteger j i) (saturated (orNought (countOf xs i) + n)) (orNought (countOf xs j))
           → orNought (countOf (cond b (record { id = i; count = saturated (x .count + n) } ∷ xs) (cond d (record { id = i; count = saturated n } ∷ (x ∷ xs)) (x ∷ added xs i n))) j)
-          ≡ cond (sameId j i) (saturated (orNought (cond b (Some (x .count)) (countOf xs i)) + n)) (orNought (countOf (x ∷ xs) j))
-      pass true d e f r = at-head (sameId j i) (sameId j (x .id)) (x .count) (countOf xs j) (ap (sameId j) (sym (id-same i (x .id) e)))
-      pass false true e f r = at-front (sameId j i) (countOf xs i) (countOf (x ∷ xs) j) (absent i xs (above-join i (x .id) xs f (h .0)))
-      pass false false e f r = at-back (sameId j i) (sameId j (x .id)) (x .count) (countOf (added xs i n) j) (countOf xs j) (saturated (orNought (countOf xs i) + n)) (elsewhere (x .id) e) r
+          ≡ cond (sameInteger j i) (saturated (orNought (cond b (Some (x .count)) (countOf xs i)) + n)) (orNought (countOf (x ∷ xs) j))
+      pass true d e f r = at-head (sameInteger j i) (sameInteger j (x .id)) (x .count) (countOf xs j) (ap (sameInteger j) (sym (id-same i (x .id) e)))
+      pass false true e f r = at-front (sameInteger j i) (countOf xs i) (countOf (x ∷ xs) j) (absent i xs (above-join i (x .id) xs f (h .0)))
+      pass false false e f r = at-back (sameInteger j i) (sameInteger j (x .id)) (x .count) (countOf (added xs i n) j) (countOf xs j) (saturated (orNought (countOf xs i) + n)) (elsewhere (x .id) e) r
 
   -- the same, where the sum does not reach the ceiling
-  counted-more : (t : Table) → Sorted t → orNought (countOf t j) + cond (sameId j i) n 0 ≤ 2 ^ 64 - 1 → orNought (countOf (added t i n) j) ≡ orNought (countOf t j) + cond (sameId j i) n 0
-  counted-more t h b = counted-added t h ∙ pass (sameId j i) refl b
+  counted-more : (t : Table) → Sorted t → orNought (countOf t j) + cond (sameInteger j i) n 0 ≤ 2 ^ 64 - 1 → orNought (countOf (added t i n) j) ≡ orNought (countOf t j) + cond (sameInteger j i) n 0
+  counted-more t h b = counted-added t h ∙ pass (sameInteger j i) refl b
     where
-      pass : (u : Bool) → sameId j i ≡ u → orNought (countOf t j) + cond u n 0 ≤ 2 ^ 64 - 1 → cond u (saturated (orNought (countOf t i) + n)) (orNought (countOf t j)) ≡ orNought (countOf t j) + cond u n 0
+      pass : (u : Bool) → sameInteger j i ≡ u → orNought (countOf t j) + cond u n 0 ≤ 2 ^ 64 - 1 → cond u (saturated (orNought (countOf t i) + n)) (orNought (countOf t j)) ≡ orNought (countOf t j) + cond u n 0
       pass true e b = ap (λ (a : ℤ). saturated (orNought (countOf t a) + n)) (sym (id-same j i e)) ∙ omega arith
       pass false e b = omega arith
 
@@ -161,14 +162,14 @@ module _ (m : Model) (id : ℤ) where
 
   -- a float column is added, since the table has room; any other adds nothing
   float-step : (r : Reach) (rs : List Reach) (t : Table) (g : Bool) → let i : ℤ = r .id in let n : ℕ = nans m (r .column) in
-      g ≡ true → orNought (countOf (added t i n) id) ≡ orNought (countOf t id) + cond (sameId id i) n 0
+      g ≡ true → orNought (countOf (added t i n) id) ≡ orNought (countOf t id) + cond (sameInteger id i) n 0
       → Counts (added t i n) (reachSum m id rs) (addReaches m (added t i n) rs None)
       → Counts t (reachSum m id (r ∷ rs)) (cond g (addReaches m (added t i n) rs None) (Err (fault 22 (r .column) (r .field)), t))
   float-step r rs t true e c y = record { taken = y .taken; counts = omega (arith, c, y .counts) }
   float-step r rs t false e c y = absurd (let z : _≡_ {A = ℕ} 0 1 = cc in omega arith)
 
   other-step : (r : Reach) (rs : List Reach) (t : Table) → float? m (r .column) ≡ false → Counts t (reachSum m id rs) (addReaches m t rs None) → Counts t (reachSum m id (r ∷ rs)) (addReaches m t rs None)
-  other-step r rs t e y = record { taken = y .taken; counts = omega (arith, y .counts, cond-nought (sameId id (r .id)) (nans m (r .column)) (nans-dull m (r .column) e)) }
+  other-step r rs t e y = record { taken = y .taken; counts = omega (arith, y .counts, cond-nought (sameInteger id (r .id)) (nans m (r .column)) (nans-dull m (r .column) e)) }
 
   room : (b : Bool) (l : ℕ) → l + 1 ≤ 256 → cond b true (leb (l + 1) 256) ≡ true
   room true l h = refl
@@ -186,7 +187,7 @@ module _ (m : Model) (id : ℤ) where
   counts-all (r ∷ rs) t h k b =
       let i : ℤ = r .id in
       let n : ℕ = nans m (r .column) in
-      let c : orNought (countOf (added t i n) id) ≡ orNought (countOf t id) + cond (sameId id i) n 0 = counted-more i id n t h (omega arith) in
+      let c : orNought (countOf (added t i n) id) ≡ orNought (countOf t id) + cond (sameInteger id i) n 0 = counted-more i id n t h (omega arith) in
       either-step r rs t (float? m (r .column)) refl
       (float-step r rs t (cond (hasId t i) true (leb (length t + 1) 256)) (room (hasId t i) (length t) (omega arith)) c
       (counts-all rs (added t i n) (sorted-added i n t h) (omega (arith, length-added i n t)) (omega arith)))

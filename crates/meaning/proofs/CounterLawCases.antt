@@ -11,8 +11,9 @@ use Rattle.std.specs.declared.result.Result.the-variants.{Err}
 use Rattle.meaning.specs.Forest.{none, tree}
 use Rattle.meaning.specs.Model.{Model, prim, float, words, float32}
 use Rattle.meaning.specs.Keeps.{Keeps, InRange}
-use Rattle.meaning.specs.Access.{Pick, Own, fault, among, kids}
-use Rattle.meaning.specs.Law.{Call, computes, countOf, tableAfter, FewIds}
+use Rattle.meaning.specs.Lists.{among}
+use Rattle.meaning.specs.Access.{Pick, Own, fault, kids}
+use Rattle.meaning.specs.CounterLaw.{Call, computes, countOf, tableAfter, FewIds}
 
 -- two rows, NaN and 0, under one id
 abbrev small : ℤ → Model

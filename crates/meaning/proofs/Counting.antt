@@ -11,14 +11,15 @@ use Rattle.std.specs.declared.result.Result.{Result}
 use Rattle.std.specs.declared.result.Result.the-variants.{Ok, Err}
 use Rattle.meaning.specs.Forest.{Forest, none, tree, size}
 use Rattle.meaning.specs.Model.{Model, Field, Shape, prim, struct, list, map, at}
-use Rattle.meaning.specs.Slots.{null, from}
+use Rattle.meaning.specs.Lists.{from, anyOf}
+use Rattle.meaning.specs.Slots.{null}
 use Rattle.meaning.specs.Access.{Pick, Own, StepFault, fault, partner}
-use Rattle.meaning.specs.Rows.{sameBy, anyOf}
-use Rattle.meaning.specs.Counts.{Reach, Found, reaches, reached, float?, nans, followedBy, atPartner, oneReach, shownWithin}
-use Rattle.meaning.specs.Law.{Table, Answer, added, hasId, addReaches}
+use Rattle.meaning.specs.Rows.{sameBy}
+use Rattle.meaning.specs.Reaches.{Reach, Found, reaches, reached, float?, nans, followedBy, atPartner, oneReach, shownWithin}
+use Rattle.meaning.specs.CounterLaw.{Table, Answer, added, hasId, addReaches}
 use Rattle.meaning.specs.Walk.{Step, ret, bind, Role, structField, listElement, mapKey, mapValue, role, fieldAt, missing, close, finish, walk, bindResult}
 use Rattle.meaning.proofs.Formed.{Exactly, Formed}
-use Rattle.meaning.specs.Ideal.{refuseIf}
+use Rattle.meaning.specs.Converter.{refuseIf}
 use Rattle.meaning.specs.Counter.{counter, Counted-law, countReach, countReachBy, computeWalk}
 use Rattle.meaning.proofs.Accepted.{partner-kind}
 use Rattle.meaning.proofs.Steps.{target-found}

@@ -6,9 +6,8 @@ use Prim.Native.Nat.{ℕ, zero, suc, _+_, _<_}
 use native.Mathlib.Omega.{arith}
 use lib.ListN.{length, getD}
 use Rattle.meaning.specs.Forest.{beside}
-use Rattle.meaning.specs.Slots.{upto, from}
-use Rattle.meaning.specs.Rows.{Values, joined, anyOf, lastSame, keptFrom, kept}
-use Rattle.meaning.specs.Refusals.{some, sum, or}
+use Rattle.meaning.specs.Lists.{upto, from, anyOf, sum}
+use Rattle.meaning.specs.Rows.{Values, joined, lastSame, keptFrom, kept}
 
 abbrev pub All : {X : Type 0} → (X → Type 0) → List X → Type 0
 All P [] = Unit {0}
@@ -43,21 +42,21 @@ upto-at P (suc n) a zero h = a .0
 upto-at P (suc n) a (suc i) h = upto-at (λ k. P (suc k)) n (each-all P suc (upto n) (a .1)) i (omega arith)
 
 -- tests, sums and lists of equal terms
-pub some-ext : (f g : ℕ → Bool) (xs : List ℕ) → All (λ i. f i ≡ g i) xs → some f xs ≡ some g xs
+pub some-ext : (f g : ℕ → Bool) (xs : List ℕ) → All (λ i. f i ≡ g i) xs → anyOf f xs ≡ anyOf g xs
 some-ext f g [] a = refl
-some-ext f g (x ∷ xs) a = ap₂ or (a .0) (some-ext f g xs (a .1))
+some-ext f g (x ∷ xs) a = ap₂ _||_ (a .0) (some-ext f g xs (a .1))
 
-pub some-none : (f : ℕ → Bool) (xs : List ℕ) → All (λ i. f i ≡ false) xs → some f xs ≡ false
+pub some-none : (f : ℕ → Bool) (xs : List ℕ) → All (λ i. f i ≡ false) xs → anyOf f xs ≡ false
 some-none f [] a = refl
-some-none f (x ∷ xs) a = ap₂ or (a .0) (some-none f xs (a .1))
+some-none f (x ∷ xs) a = ap₂ _||_ (a .0) (some-none f xs (a .1))
 
-or-off : (a b : Bool) → or a b ≡ false → (a ≡ false) × (b ≡ false)
+or-off : (a b : Bool) → (a || b) ≡ false → (a ≡ false) × (b ≡ false)
 or-off true b e = (cc, cc)
 or-off false b e = (refl, e)
 
-pub none-all : (f : ℕ → Bool) (xs : List ℕ) → some f xs ≡ false → All (λ i. f i ≡ false) xs
+pub none-all : (f : ℕ → Bool) (xs : List ℕ) → anyOf f xs ≡ false → All (λ i. f i ≡ false) xs
 none-all f [] e = tt
-none-all f (x ∷ xs) e = let h = or-off (f x) (some f xs) e in (h .0, none-all f xs (h .1))
+none-all f (x ∷ xs) e = let h = or-off (f x) (anyOf f xs) e in (h .0, none-all f xs (h .1))
 
 pub sum-ext : (f g : ℕ → ℕ) (xs : List ℕ) → All (λ i. f i ≡ g i) xs → sum f xs ≡ sum g xs
 sum-ext f g [] a = refl

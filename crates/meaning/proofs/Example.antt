@@ -11,11 +11,11 @@ use Rattle.meaning.specs.Forest.{none, tree}
 use Rattle.meaning.specs.Model.{Model, Column, Field, Shape, prim, map, float, double, Code, words, float32, float64, maps}
 use Rattle.meaning.specs.Access.{Pick, Own}
 use Rattle.meaning.specs.Rows.{rows}
-use Rattle.meaning.specs.Refusals.{converts}
-use Rattle.meaning.specs.Counts.{reached}
-use Rattle.meaning.specs.Law.{Call, computes, rowNans, countOf, hiddenNansOf}
+use Rattle.meaning.specs.Converts.{converts}
+use Rattle.meaning.specs.Reaches.{reached}
+use Rattle.meaning.specs.CounterLaw.{Call, computes, rowNans, countOf, hiddenNansOf}
 use Rattle.meaning.specs.Keeps.{Keeps, ColumnsKeep}
-use Rattle.meaning.specs.Ideal.{listed, conversion}
+use Rattle.meaning.specs.Converter.{listed, conversion}
 use Rattle.meaning.proofs.Filing.{converted-law}
 
 abbrev field : ℕ → Shape → Field

@@ -8,7 +8,7 @@ use Rattle.meaning.specs.Model.{Model, Column, Field, Shape, prim, struct, lis
 use Rattle.meaning.proofs.Enough.{Holds, Shaped, Enough}
 use Rattle.meaning.proofs.Formed.{Exactly, Formed, Bytes, Stored, Filed}
 use Rattle.meaning.specs.Keeps.{Keeps}
-use Rattle.meaning.specs.Ideal.{Converted-law}
+use Rattle.meaning.specs.Converter.{Converted-law}
 use Rattle.meaning.proofs.Kept.{rules-keep}
 use Rattle.meaning.proofs.Whole.{keeps-rules, keeps-formed, keeps-stored}
 use Rattle.meaning.proofs.Converting.{converted}

@@ -13,7 +13,8 @@ use Rattle.std.specs.declared.result.Result.the-variants.{Ok}
 use Rattle.meaning.specs.Model.{Model, Field, at}
 use Rattle.meaning.specs.Slots.{nan}
 use Rattle.meaning.specs.Access.{Pick, StepFault}
-use Rattle.meaning.specs.Counts.{Reach, Found, sameId, followedBy, atPartner, oneReach}
+use Rattle.meaning.specs.Equal.{sameInteger}
+use Rattle.meaning.specs.Reaches.{Reach, Found, followedBy, atPartner, oneReach}
 use Rattle.meaning.proofs.Totals.{sumTo}
 
 module _ (m : Model) (id : ℤ) where
@@ -23,7 +24,7 @@ module _ (m : Model) (id : ℤ) where
 
   abbrev pub shownIn : List Reach → ℕ
   shownIn [] = 0
-  shownIn (r ∷ rs) = cond (sameId id (r .id)) (shownNans r) 0 + shownIn rs
+  shownIn (r ∷ rs) = cond (sameInteger id (r .id)) (shownNans r) 0 + shownIn rs
 
   pub record Good (F : Found) (k s : ℕ) : Type 0 where
     pub whole : F .1 ≡ None
@@ -55,5 +56,5 @@ module _ (m : Model) (id : ℤ) where
 
   -- a single reach
   pub good-one : (pick : Pick) (f : Field) (n p : ℕ) (shown : ℕ → Bool)
-      → Good (oneReach m pick f n p shown) 1 (cond (sameId id (f .id)) (sumTo (at m p .len) (λ i. cond (nan (at m p) i && shown i) 1 0)) 0)
+      → Good (oneReach m pick f n p shown) 1 (cond (sameInteger id (f .id)) (sumTo (at m p .len) (λ i. cond (nan (at m p) i && shown i) 1 0)) 0)
   good-one pick f n p shown = record { whole = refl; few = omega arith; shows = omega arith }

@@ -1,23 +1,24 @@
--- Ids are in order: `same` is equality, and `below` goes one way, on and on.
+-- Ids are in order: `sameInteger` is equality, and `below` goes one way, on and on.
 use mathlib.Core.Path.{_≡_, refl, ap}
 use mathlib.Core.Bool.{true, false}
 use native.Mathlib.Omega.{arith}
 use lib.IntN.{ℤ, pos, negsuc}
 use Rattle.std.proofs.shelf.Tests.{eqb-true, eq-eqb}
 use Rattle.std.proofs.shelf.Ways.{tells}
-use Rattle.meaning.specs.Law.{below, same}
+use Rattle.meaning.specs.Equal.{sameInteger}
+use Rattle.meaning.specs.CounterLaw.{below}
 
-pub same-self : (a : ℤ) → same a a ≡ true
+pub same-self : (a : ℤ) → sameInteger a a ≡ true
 same-self (pos a) = eq-eqb a a refl
 same-self (negsuc a) = eq-eqb a a refl
 
-pub same-eq : (a b : ℤ) → same a b ≡ true → a ≡ b
+pub same-eq : (a b : ℤ) → sameInteger a b ≡ true → a ≡ b
 same-eq (pos a) (pos b) h = ap pos (eqb-true a b h)
 same-eq (pos a) (negsuc b) h = cc
 same-eq (negsuc a) (pos b) h = cc
 same-eq (negsuc a) (negsuc b) h = ap negsuc (eqb-true a b h)
 
-pub below-apart : (a b : ℤ) → below a b ≡ true → same a b ≡ false
+pub below-apart : (a b : ℤ) → below a b ≡ true → sameInteger a b ≡ false
 below-apart (pos a) (pos b) h = grind (arith, tells)
 below-apart (pos a) (negsuc b) h = refl
 below-apart (negsuc a) (pos b) h = refl
@@ -34,7 +35,7 @@ below-on (negsuc a) (negsuc b) (pos c) h k = refl
 below-on (negsuc a) (negsuc b) (negsuc c) h k = grind (arith, tells)
 
 -- of two ids that differ, one is below the other
-pub below-else : (a b : ℤ) → same a b ≡ false → below a b ≡ false → below b a ≡ true
+pub below-else : (a b : ℤ) → sameInteger a b ≡ false → below a b ≡ false → below b a ≡ true
 below-else (pos a) (pos b) h k = grind (arith, tells)
 below-else (pos a) (negsuc b) h k = refl
 below-else (negsuc a) (pos b) h k = cc

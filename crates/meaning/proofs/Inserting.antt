@@ -9,8 +9,10 @@ use lib.IntN.{ℤ, pos, negsuc}
 use Rattle.std.proofs.shelf.Tests.{cases-bool, or-cases, or-left, or-right, both-ways}
 use Rattle.meaning.specs.Model.{Column}
 use Rattle.meaning.specs.Slots.{spanSlots}
-use Rattle.meaning.specs.Rows.{sameWhole, sameBytes, same32, same64, anyOf, lastSame, keptFrom, kept, Literal, nullLiteral, booleanLiteral, intLiteral, longLiteral, floatLiteral, doubleLiteral, bytesLiteral, structLiteral, listLiteral, mapLiteral}
-use Rattle.meaning.specs.Ideal.{Value, slot, sameTruth, sameLiteral, keptPairs}
+use Rattle.meaning.specs.Lists.{anyOf}
+use Rattle.meaning.specs.Equal.{sameInteger, sameBytes, sameBoolean}
+use Rattle.meaning.specs.Rows.{same32, same64, lastSame, keptFrom, kept, Literal, nullLiteral, booleanLiteral, intLiteral, longLiteral, floatLiteral, doubleLiteral, bytesLiteral, structLiteral, listLiteral, mapLiteral}
+use Rattle.meaning.specs.Converter.{Value, slot, sameLiteral, keptPairs}
 use Rattle.meaning.proofs.Inserted.{inserted, insertedAll}
 use Rattle.meaning.proofs.Keys.{Alike, numbers, bytes, truths, singles, doubles}
 use Rattle.meaning.proofs.Everywhere.{All}
@@ -150,13 +152,13 @@ module _ (same : ℕ → ℕ → Bool) (l : Linked same) where
 linked : {X : Type 0} (same : X → X → Bool) → Alike same → Linked same
 linked same a = record { flip = a .flip; join = a .join }
 
-whole-flip : (a b : ℤ) → sameWhole a b ≡ true → sameWhole b a ≡ true
+whole-flip : (a b : ℤ) → sameInteger a b ≡ true → sameInteger b a ≡ true
 whole-flip (pos a) (pos b) e = numbers .flip a b e
 whole-flip (pos a) (negsuc b) e = e
 whole-flip (negsuc a) (pos b) e = e
 whole-flip (negsuc a) (negsuc b) e = numbers .flip a b e
 
-whole-join : (a b c : ℤ) → sameWhole a b ≡ true → sameWhole b c ≡ true → sameWhole a c ≡ true
+whole-join : (a b c : ℤ) → sameInteger a b ≡ true → sameInteger b c ≡ true → sameInteger a c ≡ true
 whole-join (pos a) (pos b) (pos c) e f = numbers .join a b c e f
 whole-join (pos a) (pos b) (negsuc c) e f = f
 whole-join (pos a) (negsuc b) c e f = absurd (both-ways false refl e)
@@ -164,11 +166,11 @@ whole-join (negsuc a) (pos b) c e f = absurd (both-ways false refl e)
 whole-join (negsuc a) (negsuc b) (pos c) e f = f
 whole-join (negsuc a) (negsuc b) (negsuc c) e f = numbers .join a b c e f
 
-wholes : Linked sameWhole
+wholes : Linked sameInteger
 wholes = record { flip = whole-flip; join = whole-join }
 
 -- a value that is one key with a primitive value is of its kind
-truth-like : (a : Bool) (y : Literal) → sameLiteral (booleanLiteral a) y ≡ true → (b : Bool) × (y ≡ booleanLiteral b) × (sameTruth a b ≡ true)
+truth-like : (a : Bool) (y : Literal) → sameLiteral (booleanLiteral a) y ≡ true → (b : Bool) × (y ≡ booleanLiteral b) × (sameBoolean a b ≡ true)
 truth-like a nullLiteral e = absurd (both-ways false refl e)
 truth-like a (booleanLiteral b) e = (b, refl, e)
 truth-like a (intLiteral b) e = absurd (both-ways false refl e)
@@ -180,7 +182,7 @@ truth-like a structLiteral e = absurd (both-ways false refl e)
 truth-like a listLiteral e = absurd (both-ways false refl e)
 truth-like a mapLiteral e = absurd (both-ways false refl e)
 
-whole-like : (a : ℤ) (y : Literal) → sameLiteral (intLiteral a) y ≡ true → (b : ℤ) × (y ≡ intLiteral b) × (sameWhole a b ≡ true)
+whole-like : (a : ℤ) (y : Literal) → sameLiteral (intLiteral a) y ≡ true → (b : ℤ) × (y ≡ intLiteral b) × (sameInteger a b ≡ true)
 whole-like a nullLiteral e = absurd (both-ways false refl e)
 whole-like a (booleanLiteral b) e = absurd (both-ways false refl e)
 whole-like a (intLiteral b) e = (b, refl, e)
@@ -192,7 +194,7 @@ whole-like a structLiteral e = absurd (both-ways false refl e)
 whole-like a listLiteral e = absurd (both-ways false refl e)
 whole-like a mapLiteral e = absurd (both-ways false refl e)
 
-longer-like : (a : ℤ) (y : Literal) → sameLiteral (longLiteral a) y ≡ true → (b : ℤ) × (y ≡ longLiteral b) × (sameWhole a b ≡ true)
+longer-like : (a : ℤ) (y : Literal) → sameLiteral (longLiteral a) y ≡ true → (b : ℤ) × (y ≡ longLiteral b) × (sameInteger a b ≡ true)
 longer-like a nullLiteral e = absurd (both-ways false refl e)
 longer-like a (booleanLiteral b) e = absurd (both-ways false refl e)
 longer-like a (intLiteral b) e = absurd (both-ways false refl e)

@@ -10,7 +10,8 @@ use Rattle.std.proofs.shelf.Ways.{tells}
 use Rattle.std.proofs.shelf.Tests.{eq-eqb, eqb-true, and-parts, and-from, or-cases}
 use Rattle.meaning.specs.Model.{Column, Shape, prim, struct, list, map, Primitive, boolean, int, long, float, double, date, time, timestamp, timestamptz, timestampNs, timestamptzNs, string, uuid, fixed, binary}
 use Rattle.meaning.specs.Slots.{bit, stored, nan32, nan64}
-use Rattle.meaning.specs.Rows.{bytesAt, sameBytes, zero32, zero64, same32, same64, sameKey, sameBy}
+use Rattle.meaning.specs.Equal.{sameBytes, sameBoolean}
+use Rattle.meaning.specs.Rows.{bytesAt, zero32, zero64, same32, same64, sameKey, sameBy}
 
 pub record Alike {X : Type 0} (same : X → X → Bool) : Type 0 where
   pub self : (a : X) → same a a ≡ true
@@ -43,24 +44,20 @@ equal-bytes xs ys e = subst (λ (zs : List ℕ). sameBytes xs zs ≡ true) e (by
 pub bytes : Alike sameBytes
 bytes = record { self = bytes-self; flip = λ a b e. equal-bytes b a (sym (bytes-equal a b e)); join = λ a b c e f. equal-bytes a c (bytes-equal a b e ∙ bytes-equal b c f) }
 
--- truth values
-abbrev agree : Bool → Bool → Bool
-agree a b = cond a b (not b)
-
-pub truths : Alike agree
+pub truths : Alike sameBoolean
 truths = record { self = self′; flip = flip′; join = join′ }
   where
-    self′ : (a : Bool) → agree a a ≡ true
+    self′ : (a : Bool) → sameBoolean a a ≡ true
     self′ true = refl
     self′ false = refl
 
-    flip′ : (a b : Bool) → agree a b ≡ true → agree b a ≡ true
+    flip′ : (a b : Bool) → sameBoolean a b ≡ true → sameBoolean b a ≡ true
     flip′ true true e = refl
     flip′ true false e = e
     flip′ false true e = e
     flip′ false false e = refl
 
-    join′ : (a b c : Bool) → agree a b ≡ true → agree b c ≡ true → agree a c ≡ true
+    join′ : (a b c : Bool) → sameBoolean a b ≡ true → sameBoolean b c ≡ true → sameBoolean a c ≡ true
     join′ true true c e f = f
     join′ true false true e f = refl
     join′ true false false e f = e
@@ -94,7 +91,7 @@ doubles = floats nan64 zero64 zero64-apart
 
 -- the keys of one column, by slot
 pub key-alike : (p : Primitive) (x : Column) → Alike (sameKey p x)
-key-alike boolean x = read agree (λ i. bit (x .body) i) truths
+key-alike boolean x = read sameBoolean (λ i. bit (x .body) i) truths
 key-alike int x = read eqb (λ i. stored 4 (x .body) i) numbers
 key-alike long x = read eqb (λ i. stored 8 (x .body) i) numbers
 key-alike float x = read same32 (λ i. stored 4 (x .body) i) singles

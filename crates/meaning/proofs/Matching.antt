@@ -9,8 +9,10 @@ use Rattle.std.specs.declared.option.Option.the-variants.{Some, None}
 use Rattle.std.proofs.shelf.Tests.{eq-eqb, or-left, or-right}
 use Rattle.meaning.specs.Forest.{Forest, none, tree, size, numbers, find}
 use Rattle.meaning.specs.Model.{Model, Field, Column, children}
-use Rattle.meaning.specs.Access.{Own, kids, among}
-use Rattle.meaning.specs.Match.{sameBytes, byField, byId, byName, readId, isId, firstChild}
+use Rattle.meaning.specs.Lists.{among}
+use Rattle.meaning.specs.Access.{Own, kids}
+use Rattle.meaning.specs.Equal.{sameBytes}
+use Rattle.meaning.specs.Picks.{byField, byId, byName, readId, isId, firstChild}
 
 first-among : (f : Column → Bool) (n k : ℕ) (F : Forest Column) → firstChild f n F ≡ Some k → among k (numbers n F) ≡ true
 first-among f n k none e = absurd (let z : _≡_ {A = ℕ} 0 1 = cc in omega arith)

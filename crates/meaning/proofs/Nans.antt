@@ -8,8 +8,10 @@ use native.Mathlib.Omega.{arith}
 use lib.IntN.{ℤ}
 use lib.ListN.{length}
 use Rattle.meaning.specs.Model.{Model, Code, bits, words, variable, fixedSizeBinary, structs, lists, largeLists, fixedSizeLists, maps, int32, int64, float32, float64, date32, time64, micros, nanos, at}
-use Rattle.meaning.specs.Slots.{null, nan, nanBy, upto}
-use Rattle.meaning.specs.Counts.{Reach, nans, hiddenNans, float?, isFloat, sameId, tally}
+use Rattle.meaning.specs.Lists.{upto, tally}
+use Rattle.meaning.specs.Slots.{null, nan, nanBy}
+use Rattle.meaning.specs.Equal.{sameInteger}
+use Rattle.meaning.specs.Reaches.{Reach, nans, hiddenNans, float?, isFloat}
 use Rattle.meaning.proofs.Totals.{sumTo, tally-upto, sum-none}
 use Rattle.meaning.proofs.Found.{shownNans, shownIn}
 
@@ -75,16 +77,16 @@ module _ (m : Model) where
 module _ (m : Model) (id : ℤ) where
   abbrev pub reachSum : List Reach → ℕ
   reachSum [] = 0
-  reachSum (r ∷ rs) = cond (sameId id (r .id)) (nans m (r .column)) 0 + reachSum rs
+  reachSum (r ∷ rs) = cond (sameInteger id (r .id)) (nans m (r .column)) 0 + reachSum rs
 
   abbrev pub hiddenSum : List Reach → ℕ
   hiddenSum [] = 0
-  hiddenSum (r ∷ rs) = cond (sameId id (r .id)) (hiddenNans m r) 0 + hiddenSum rs
+  hiddenSum (r ∷ rs) = cond (sameInteger id (r .id)) (hiddenNans m r) 0 + hiddenSum rs
 
   pub sum-hidden : (rs : List Reach) → reachSum rs ≡ shownIn m id rs + hiddenSum rs
   sum-hidden [] = refl
-  sum-hidden (r ∷ rs) = omega (arith, sum-hidden rs, cond-split (sameId id (r .id)) (nans m (r .column)) (shownNans m id r) (hiddenNans m r) (nans-split m id r))
+  sum-hidden (r ∷ rs) = omega (arith, sum-hidden rs, cond-split (sameInteger id (r .id)) (nans m (r .column)) (shownNans m id r) (hiddenNans m r) (nans-split m id r))
 
   pub reach-bound : (l : ℕ) → ((c : ℕ) → nans m c ≤ l) → (rs : List Reach) → reachSum rs ≤ length rs * l
   reach-bound l h [] = omega arith
-  reach-bound l h (r ∷ rs) = omega (arith, cond-le (sameId id (r .id)) (nans m (r .column)), h (r .column), reach-bound l h rs, suc-mul (length rs) l)
+  reach-bound l h (r ∷ rs) = omega (arith, cond-le (sameInteger id (r .id)) (nans m (r .column)), h (r .column), reach-bound l h rs, suc-mul (length rs) l)

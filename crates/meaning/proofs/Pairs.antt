@@ -7,8 +7,8 @@ use Prim.Native.Nat.{ℕ, zero, suc, _+_, _-_, _≤_}
 use native.Mathlib.Nat.{add-zero}
 use native.Mathlib.Omega.{arith}
 use Rattle.std.proofs.shelf.Tests.{cases-bool}
-use Rattle.meaning.specs.Slots.{upto, from}
-use Rattle.meaning.specs.Rows.{anyOf, lastSame, keptFrom, kept}
+use Rattle.meaning.specs.Lists.{upto, from, anyOf}
+use Rattle.meaning.specs.Rows.{lastSame, keptFrom, kept}
 use Rattle.meaning.proofs.Totals.{total}
 use Rattle.meaning.proofs.Keys.{Alike}
 

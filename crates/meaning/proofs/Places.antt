@@ -12,9 +12,10 @@ use Rattle.std.specs.declared.option.Option.the-variants.{Some, None}
 use Rattle.std.proofs.shelf.Tests.{eqb-true, eq-eqb, ne-eqb, lt-ltb, le-ltb, cond-true, cond-false, or-left, or-right}
 use Rattle.meaning.specs.Forest.{Forest, none, tree, size, numbers, find}
 use Rattle.meaning.specs.Model.{Model, Field, Column, below}
-use Rattle.meaning.specs.Access.{kids, among}
+use Rattle.meaning.specs.Lists.{among}
+use Rattle.meaning.specs.Access.{kids}
 use Rattle.meaning.specs.Walk.{fieldAt, typeOf, typeAt, missing, absentColumn}
-use Rattle.meaning.specs.Ideal.{holderIn, holder}
+use Rattle.meaning.specs.Converter.{holderIn, holder}
 
 -- the fields that a walk has before it, from field n on, are the schema's under their numbers
 module _ (m : Model) where

@@ -14,12 +14,13 @@ use Rattle.std.specs.declared.result.Result.the-variants.{Ok}
 use Rattle.std.proofs.shelf.Tests.{lt-ltb}
 use Rattle.meaning.specs.Forest.{size}
 use Rattle.meaning.specs.Model.{Model, struct}
-use Rattle.meaning.specs.Slots.{upto}
+use Rattle.meaning.specs.Lists.{upto, orZero}
 use Rattle.meaning.specs.Access.{StepFault}
 use Rattle.meaning.specs.Rows.{parts, row, rows, joined}
-use Rattle.meaning.specs.Refusals.{converts, checkFields}
-use Rattle.meaning.specs.Counts.{Reach, reached, nansIn, hiddenNans, sameId}
-use Rattle.meaning.specs.Law.{Call, computes, orZero, rowNans, Rows-law, countOf, addReaches, hiddenNansOf}
+use Rattle.meaning.specs.Converts.{converts, checkFields}
+use Rattle.meaning.specs.Equal.{sameInteger}
+use Rattle.meaning.specs.Reaches.{Reach, reached, nansIn, hiddenNans}
+use Rattle.meaning.specs.CounterLaw.{Call, computes, rowNans, Rows-law, countOf, addReaches, hiddenNansOf}
 use Rattle.meaning.proofs.Filing.{keeps-enough}
 use Rattle.meaning.proofs.Totals.{total, total-upto, sum-ext}
 use Rattle.meaning.proofs.Accepted.{chain-ok}
@@ -38,7 +39,7 @@ module _ (c : Call) (id : ℤ) where
   -- the law's words for the sums
   hidden-sum : (rs : List Reach) → hiddenSum m id rs ≡ hiddenNansOf c id rs
   hidden-sum [] = refl
-  hidden-sum (r ∷ rs) = ap (λ k. cond (sameId id (r .id)) (hiddenNans m r) 0 + k) (hidden-sum rs)
+  hidden-sum (r ∷ rs) = ap (λ k. cond (sameInteger id (r .id)) (hiddenNans m r) 0 + k) (hidden-sum rs)
 
   or-zero : (o : Option ℕ) → orZero o ≡ orNought o
   or-zero None = refl

@@ -11,14 +11,15 @@ use Rattle.std.specs.declared.result.Result.the-variants.{Ok}
 use Rattle.std.proofs.shelf.Tests.{eq-eqb, ne-eqb, le-ltb, cond-true, not-from-true}
 use Rattle.meaning.specs.Forest.{Forest, none, tree, size, count}
 use Rattle.meaning.specs.Model.{Model, Column, Field, Shape, prim, struct, list, map, Primitive, boolean, int, long, float, double, date, time, timestamp, timestamptz, timestampNs, timestamptzNs, string, uuid, fixed, binary, Code, bits, words, variable, fixedSizeBinary, structs, lists, largeLists, fixedSizeLists, maps, at}
-use Rattle.meaning.specs.Slots.{null, span, upto, spanSlots}
+use Rattle.meaning.specs.Lists.{upto, anyOf, sum, orZero}
+use Rattle.meaning.specs.Slots.{null, span, spanSlots}
 use Rattle.meaning.specs.Access.{Pick, Own, fault, kids, struct?, list?, map?}
-use Rattle.meaning.specs.Rows.{Values, sameBy, joined, kept, parts, orZero, nullLiteral, structLiteral, listLiteral, mapLiteral, primitiveLiteral, literalBy, literalAt}
-use Rattle.meaning.specs.Refusals.{accepts, some, sum, takes, fieldHook, nullInSpans, ownHook, checkFields}
+use Rattle.meaning.specs.Rows.{Values, sameBy, joined, kept, parts, nullLiteral, structLiteral, listLiteral, mapLiteral, primitiveLiteral, literalBy, literalAt}
+use Rattle.meaning.specs.Converts.{accepts, takes, fieldHook, nullInSpans, ownHook, checkFields}
 use Rattle.meaning.proofs.Enough.{Plain, Cutting, Enough}
 use Rattle.meaning.proofs.Formed.{Exactly, Formed, Bytes, Filed}
 use Rattle.meaning.specs.Walk.{Step, mapKey, mapValue, role, fieldAt, typeAt, missing, close, finish}
-use Rattle.meaning.specs.Ideal.{Value, slot, primOf, structOf, listOf, mapOf, requiredOf, holder, pastEnd, elements, entries, pairCells, uneven, taking, fieldStep, converter, isNullLiteral, sameLiteral, putBefore, refuseIf, nullInSpan, listRows, rowValues, fieldParts, keptPairs, nullRequired}
+use Rattle.meaning.specs.Converter.{Value, slot, primOf, structOf, listOf, mapOf, requiredOf, holder, pastEnd, elements, entries, pairCells, uneven, taking, fieldStep, converter, isNullLiteral, sameLiteral, putBefore, refuseIf, nullInSpan, listRows, rowValues, fieldParts, keptPairs, nullRequired}
 use Rattle.meaning.proofs.Totals.{Cuts}
 use Rattle.meaning.proofs.Spans.{list-cuts, map-cuts}
 use Rattle.meaning.proofs.Accepted.{target, Kind, step}
@@ -268,9 +269,9 @@ module _ (m : Model) (pick : Pick) (cells : ℕ) where
     module _ (whole : nullInSpans m pick cells c keyed ≡ false) where
       live-cut : (i : ℕ) → i < at m c .len → null (at m c) i ≡ false → All Live (spanSlots (at m c) i)
       live-cut i h e =
-          let test : ℕ → Bool = λ i. not (null (at m c) i) && some (λ j. null (at m keyed) j) (spanSlots (at m c) i) in
+          let test : ℕ → Bool = λ i. not (null (at m c) i) && anyOf (λ j. null (at m keyed) j) (spanSlots (at m c) i) in
           let a : test i ≡ false = upto-at (λ i. test i ≡ false) (at m c .len) (none-all test (upto (at m c .len)) whole) i h in
-          let b : some (λ j. null (at m keyed) j) (spanSlots (at m c) i) ≡ false = sym (ap (λ (u : Bool). not u && some (λ j. null (at m keyed) j) (spanSlots (at m c) i)) e) ∙ a in
+          let b : anyOf (λ j. null (at m keyed) j) (spanSlots (at m c) i) ≡ false = sym (ap (λ (u : Bool). not u && anyOf (λ j. null (at m keyed) j) (spanSlots (at m c) i)) e) ∙ a in
           all-both (λ j. j < at m keyed .len) (λ j. null (at m keyed) j ≡ false) (spanSlots (at m c) i)
           (all-cut (at m c) (at m keyed .len) key-spans (λ j. j < at m keyed .len) i h (λ j q. q)) (none-all (λ j. null (at m keyed) j) (spanSlots (at m c) i) b)
 
@@ -374,12 +375,12 @@ module _ (m : Model) (pick : Pick) (cells : ℕ) where
 
     -- the test, by the holder and the number of slots
     abbrev bareBy : ℕ → ℕ → Bool
-    bareBy h l = some (λ i. not (struct? m h && null (at m h) i) && isNullLiteral (slot mated i .0)) (upto l)
+    bareBy h l = anyOf (λ i. not (struct? m h && null (at m h) i) && isNullLiteral (slot mated i .0)) (upto l)
 
     bare-slot : (i : ℕ) → i < at m c .len → (not (struct? m c && null (at m c) i) && isNullLiteral (slot mated i .0)) ≡ (not (null (at m c) i) && null (at m mate) i)
     bare-slot i h = ap₂ (λ (u v : Bool). not (u && null (at m c) i) && v) (kind .0) (column-null m pick (f .shape) below n mate i (omega (arith, mate-len)))
 
-    bare-same : nullRequired m cells mate mated ≡ some (λ i. not (null (at m c) i) && null (at m mate) i) (upto (at m c .len))
+    bare-same : nullRequired m cells mate mated ≡ anyOf (λ i. not (null (at m c) i) && null (at m mate) i) (upto (at m c .len))
     bare-same =
         ap₂ bareBy mate-holder (column-length m pick (f .shape) below n mate ∙ mate-len)
         ∙ some-ext _ _ (upto (at m c .len)) (all-upto _ (at m c .len) bare-slot)
@@ -387,7 +388,7 @@ module _ (m : Model) (pick : Pick) (cells : ℕ) where
     pub field-agrees : (t : ℕ) → fieldAt m n ≡ Some (f, below) → Agrees (fieldStep m cells n mate mated t) (fieldHook m pick cells struct f n c mate t) mated
     field-agrees t e =
         agrees-sought m (requiredOf (fieldAt m n)) (f .required) n mate _ t _ _ (ap requiredOf e) (found-child m c mate (mine c n mate (kind .1)))
-        (agrees-retest (f .required && nullRequired m cells mate mated) (f .required && some (λ i. not (null (at m c) i) && null (at m mate) i) (upto (at m c .len))) (fault 15 mate n) _ t _ _
+        (agrees-retest (f .required && nullRequired m cells mate mated) (f .required && anyOf (λ i. not (null (at m c) i) && null (at m mate) i) (upto (at m c .len))) (fault 15 mate n) _ t _ _
         (ap (λ (b : Bool). f .required && b) bare-same) (λ _. refl))
 
   -- a field's partner is a column

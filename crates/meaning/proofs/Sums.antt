@@ -12,8 +12,8 @@ use Rattle.std.specs.declared.option.Option.{Option}
 use Rattle.std.proofs.shelf.Tests.{cases-bool, le-leb}
 use Rattle.meaning.specs.Model.{Model}
 use Rattle.meaning.specs.Access.{StepFault}
-use Rattle.meaning.specs.Counts.{Reach, reached, nans, float?}
-use Rattle.meaning.specs.Law.{Call, Table, added, Answer, answer, sumOf, mentions, Reordered, done, skip, swap, trans, computes, answers, Sums-law, countOf, hasId, addReaches, floatAdditions, tableAfter, allAdditions, FewIds}
+use Rattle.meaning.specs.Reaches.{Reach, reached, nans, float?}
+use Rattle.meaning.specs.CounterLaw.{Call, Table, added, Answer, answer, sumOf, mentions, Reordered, done, skip, swap, trans, computes, answers, Sums-law, countOf, hasId, addReaches, floatAdditions, tableAfter, allAdditions, FewIds}
 use Rattle.meaning.proofs.Tables.{alike-equal, length-new}
 use Rattle.meaning.proofs.Additions.{folded, folded-both, ascending-folded, length-folded, sum-folded, length-distinct, distinct-length, sumOf-both, mentions-both, sumOf-turn, mentions-turn}
 

@@ -10,7 +10,8 @@ use lib.ListN.{length}
 use Rattle.std.specs.declared.option.Option.{Option}
 use Rattle.std.specs.declared.option.Option.the-variants.{Some, None}
 use Rattle.std.proofs.shelf.Tests.{cases-bool}
-use Rattle.meaning.specs.Law.{Table, below, same, added, CountEntry, saturated, countOf, hasId}
+use Rattle.meaning.specs.Equal.{sameInteger}
+use Rattle.meaning.specs.CounterLaw.{Table, below, added, CountEntry, saturated, countOf, hasId}
 use Rattle.meaning.proofs.Ids.{same-self, same-eq, below-apart, below-on, below-else}
 
 -- every entry's id is above this one
@@ -35,7 +36,7 @@ above-none id (e ∷ es) k = rw (below-apart id (e .id) (k .0)) (above-none id e
 above-added : (a : ℤ) (t : Table) (id : ℤ) (n : ℕ) → below a id ≡ true → Above a t → Above a (added t id n)
 above-added a [] id n h k = (h, tt)
 above-added a (e ∷ es) id n h k =
-    elim (cases-bool (same id (e .id))) [
+    elim (cases-bool (sameInteger id (e .id))) [
       | inl s ↦ rw s (h, k .1)
       | inr s ↦ elim (cases-bool (below id (e .id))) [
         | inl b ↦ rw (s, b) (h, k)
@@ -46,7 +47,7 @@ above-added a (e ∷ es) id n h k =
 pub ascending-added : (t : Table) (id : ℤ) (n : ℕ) → Ascending t → Ascending (added t id n)
 ascending-added [] id n k = (tt, tt)
 ascending-added (e ∷ es) id n k =
-    elim (cases-bool (same id (e .id))) [
+    elim (cases-bool (sameInteger id (e .id))) [
       | inl s ↦ rw s (subst (λ (x : ℤ). Above x es) (sym (same-eq id (e .id) s)) (k .0), k .1)
       | inr s ↦ elim (cases-bool (below id (e .id))) [
         | inl b ↦ rw (s, b) ((b, above-on id (e .id) es b (k .0)), k)
@@ -60,14 +61,14 @@ plus None n = Some (saturated n)
 plus (Some c) n = Some (saturated (c + n))
 
 -- and it changes no other count
-pub counted-added : (t : Table) (id : ℤ) (n : ℕ) (q : ℤ) → Ascending t → countOf (added t id n) q ≡ cond (same q id) (plus (countOf t q) n) (countOf t q)
+pub counted-added : (t : Table) (id : ℤ) (n : ℕ) (q : ℤ) → Ascending t → countOf (added t id n) q ≡ cond (sameInteger q id) (plus (countOf t q) n) (countOf t q)
 counted-added [] id n q k = refl
 counted-added (e ∷ es) id n q k =
-    elim (cases-bool (same id (e .id))) [
-      | inl s ↦ rw (s, ← (same-eq id (e .id) s)) (elim (cases-bool (same q id)) [ inl c ↦ rw c | inr c ↦ rw c ])
+    elim (cases-bool (sameInteger id (e .id))) [
+      | inl s ↦ rw (s, ← (same-eq id (e .id) s)) (elim (cases-bool (sameInteger q id)) [ inl c ↦ rw c | inr c ↦ rw c ])
       | inr s ↦ elim (cases-bool (below id (e .id))) [
-        | inl b ↦ rw (s, b) (elim (cases-bool (same q id)) [ inl c ↦ rw (c, same-eq q id c, below-apart id (e .id) b, above-none id es (above-on id (e .id) es b (k .0))) | inr c ↦ rw c ])
-        | inr b ↦ rw (s, b, counted-added es id n q (k .1)) (elim (cases-bool (same q id)) [ inl c ↦ rw (c, same-eq q id c, s) | inr c ↦ rw c ])
+        | inl b ↦ rw (s, b) (elim (cases-bool (sameInteger q id)) [ inl c ↦ rw (c, same-eq q id c, below-apart id (e .id) b, above-none id es (above-on id (e .id) es b (k .0))) | inr c ↦ rw c ])
+        | inr b ↦ rw (s, b, counted-added es id n q (k .1)) (elim (cases-bool (sameInteger q id)) [ inl c ↦ rw (c, same-eq q id c, s) | inr c ↦ rw c ])
       ]
     ]
 
@@ -79,8 +80,8 @@ entry e f p q = λ i. record { id = p i; count = q i }
 first-counted : (e : CountEntry) (es : Table) → countOf (e ∷ es) (e .id) ≡ Some (e .count)
 first-counted e es = rw (same-self (e .id))
 
-rest-counted : (e : CountEntry) (es : Table) (q : ℤ) → Ascending (e ∷ es) → countOf es q ≡ cond (same q (e .id)) None (countOf (e ∷ es) q)
-rest-counted e es q k = elim (cases-bool (same q (e .id))) [ inl s ↦ rw (s, same-eq q (e .id) s, above-none (e .id) es (k .0)) | inr s ↦ rw s ]
+rest-counted : (e : CountEntry) (es : Table) (q : ℤ) → Ascending (e ∷ es) → countOf es q ≡ cond (sameInteger q (e .id)) None (countOf (e ∷ es) q)
+rest-counted e es q k = elim (cases-bool (sameInteger q (e .id))) [ inl s ↦ rw (s, same-eq q (e .id) s, above-none (e .id) es (k .0)) | inr s ↦ rw s ]
 
 -- of two tables that count alike, no head is below the other's
 heads : (e f : CountEntry) (es fs : Table) → Ascending (f ∷ fs) → ((q : ℤ) → countOf (e ∷ es) q ≡ countOf (f ∷ fs) q) → below (e .id) (f .id) ≡ true → ⊥
@@ -92,8 +93,8 @@ heads e f es fs k alike b =
 rests : (e f : CountEntry) (es fs : Table) → Ascending (e ∷ es) → Ascending (f ∷ fs) → e .id ≡ f .id → ((q : ℤ) → countOf (e ∷ es) q ≡ countOf (f ∷ fs) q) → (q : ℤ) → countOf es q ≡ countOf fs q
 rests e f es fs j k p alike q =
     rest-counted e es q j
-    ∙ (ap (λ (x : ℤ). cond (same q x) None (countOf (e ∷ es) q)) p
-    ∙ (ap (λ (o : Option ℕ). cond (same q (f .id)) None o) (alike q)
+    ∙ (ap (λ (x : ℤ). cond (sameInteger q x) None (countOf (e ∷ es) q)) p
+    ∙ (ap (λ (o : Option ℕ). cond (sameInteger q (f .id)) None o) (alike q)
     ∙ sym (rest-counted f fs q k)))
 
 -- tables that count alike are equal, entry by entry
@@ -102,7 +103,7 @@ alike-equal [] [] j k alike = refl
 alike-equal [] (f ∷ fs) j k alike = let z : None ≡ Some (f .count) = alike (f .id) ∙ first-counted f fs in cc
 alike-equal (e ∷ es) [] j k alike = let z : None ≡ Some (e .count) = sym (alike (e .id)) ∙ first-counted e es in cc
 alike-equal (e ∷ es) (f ∷ fs) j k alike =
-    elim (cases-bool (same (e .id) (f .id))) [
+    elim (cases-bool (sameInteger (e .id) (f .id))) [
       | inl s ↦
           let p : e .id ≡ f .id = same-eq (e .id) (f .id) s in
           let c : Some (e .count) ≡ Some (f .count) = sym (first-counted e es) ∙ (alike (e .id) ∙ (ap (countOf (f ∷ fs)) p ∙ first-counted f fs)) in
@@ -118,7 +119,7 @@ alike-equal (e ∷ es) (f ∷ fs) j k alike =
 pub length-added : (t : Table) (id : ℤ) (n : ℕ) → length t ≤ length (added t id n)
 length-added [] id n = omega arith
 length-added (e ∷ es) id n =
-    elim (cases-bool (same id (e .id))) [
+    elim (cases-bool (sameInteger id (e .id))) [
       | inl s ↦ rw s (omega arith)
       | inr s ↦ elim (cases-bool (below id (e .id))) [
         | inl b ↦ rw (s, b) (omega arith)
@@ -129,7 +130,7 @@ length-added (e ∷ es) id n =
 pub length-new : (t : Table) (id : ℤ) (n : ℕ) → hasId t id ≡ false → length (added t id n) ≡ length t + 1
 length-new [] id n h = refl
 length-new (e ∷ es) id n h =
-    elim (cases-bool (same id (e .id))) [
+    elim (cases-bool (sameInteger id (e .id))) [
       | inl s ↦ let z : true ≡ false = rw s at h in cc
       | inr s ↦ elim (cases-bool (below id (e .id))) [
         | inl b ↦ rw (s, b) (omega arith)
@@ -140,42 +141,42 @@ length-new (e ∷ es) id n h =
 -- the table without an id's entry
 abbrev pub without : Table → ℤ → Table
 without [] id = []
-without (e ∷ es) id = cond (same id (e .id)) es (e ∷ without es id)
+without (e ∷ es) id = cond (sameInteger id (e .id)) es (e ∷ without es id)
 
 above-without : (a : ℤ) (t : Table) (id : ℤ) → Above a t → Above a (without t id)
 above-without a [] id k = tt
-above-without a (e ∷ es) id k = elim (cases-bool (same id (e .id))) [ inl s ↦ rw s (k .1) | inr s ↦ rw s (k .0, above-without a es id (k .1)) ]
+above-without a (e ∷ es) id k = elim (cases-bool (sameInteger id (e .id))) [ inl s ↦ rw s (k .1) | inr s ↦ rw s (k .0, above-without a es id (k .1)) ]
 
 pub ascending-without : (t : Table) (id : ℤ) → Ascending t → Ascending (without t id)
 ascending-without [] id k = tt
 ascending-without (e ∷ es) id k =
-    elim (cases-bool (same id (e .id))) [ inl s ↦ rw s (k .1) | inr s ↦ rw s (above-without (e .id) es id (k .0), ascending-without es id (k .1)) ]
+    elim (cases-bool (sameInteger id (e .id))) [ inl s ↦ rw s (k .1) | inr s ↦ rw s (above-without (e .id) es id (k .0), ascending-without es id (k .1)) ]
 
 pub length-without : (t : Table) (id : ℤ) → length t ≤ suc (length (without t id))
 length-without [] id = omega arith
-length-without (e ∷ es) id = elim (cases-bool (same id (e .id))) [ inl s ↦ rw s (omega arith) | inr s ↦ rw s (omega (arith, length-without es id)) ]
+length-without (e ∷ es) id = elim (cases-bool (sameInteger id (e .id))) [ inl s ↦ rw s (omega arith) | inr s ↦ rw s (omega (arith, length-without es id)) ]
 
-pub counted-without : (t : Table) (id q : ℤ) → Ascending t → countOf (without t id) q ≡ cond (same q id) None (countOf t q)
-counted-without [] id q k = elim (cases-bool (same q id)) [ inl c ↦ rw c | inr c ↦ rw c ]
+pub counted-without : (t : Table) (id q : ℤ) → Ascending t → countOf (without t id) q ≡ cond (sameInteger q id) None (countOf t q)
+counted-without [] id q k = elim (cases-bool (sameInteger q id)) [ inl c ↦ rw c | inr c ↦ rw c ]
 counted-without (e ∷ es) id q k =
-    elim (cases-bool (same id (e .id))) [
+    elim (cases-bool (sameInteger id (e .id))) [
       | inl s ↦ rw s (rw (same-eq id (e .id) s) (rest-counted e es q k))
-      | inr s ↦ rw (s, counted-without es id q (k .1)) (elim (cases-bool (same q id)) [ inl c ↦ rw (c, same-eq q id c, s) | inr c ↦ rw c ])
+      | inr s ↦ rw (s, counted-without es id q (k .1)) (elim (cases-bool (sameInteger q id)) [ inl c ↦ rw (c, same-eq q id c, s) | inr c ↦ rw c ])
     ]
 
 -- to find an entry
 pub has-counted : (t : Table) (q : ℤ) (c : ℕ) → countOf t q ≡ Some c → hasId t q ≡ true
 has-counted [] q c h = cc
-has-counted (e ∷ es) q c h = elim (cases-bool (same q (e .id))) [ inl s ↦ rw s | inr s ↦ rw s (has-counted es q c (rw s at h)) ]
+has-counted (e ∷ es) q c h = elim (cases-bool (sameInteger q (e .id))) [ inl s ↦ rw s | inr s ↦ rw s (has-counted es q c (rw s at h)) ]
 
-pub has-without : (t : Table) (id q : ℤ) → same q id ≡ false → hasId (without t id) q ≡ hasId t q
+pub has-without : (t : Table) (id q : ℤ) → sameInteger q id ≡ false → hasId (without t id) q ≡ hasId t q
 has-without [] id q h = refl
 has-without (e ∷ es) id q h =
-    elim (cases-bool (same id (e .id))) [
-      | inl s ↦ rw s (let z : same q (e .id) ≡ false = rw (same-eq id (e .id) s) at h in rw z)
+    elim (cases-bool (sameInteger id (e .id))) [
+      | inl s ↦ rw s (let z : sameInteger q (e .id) ≡ false = rw (same-eq id (e .id) s) at h in rw z)
       | inr s ↦ rw (s, has-without es id q h)
     ]
 
 pub length-had : (t : Table) (id : ℤ) → hasId t id ≡ true → length t ≡ suc (length (without t id))
 length-had [] id h = cc
-length-had (e ∷ es) id h = elim (cases-bool (same id (e .id))) [ inl s ↦ rw s | inr s ↦ rw s (ap suc (length-had es id (rw s at h))) ]
+length-had (e ∷ es) id h = elim (cases-bool (sameInteger id (e .id))) [ inl s ↦ rw s | inr s ↦ rw s (ap suc (length-had es id (rw s at h))) ]

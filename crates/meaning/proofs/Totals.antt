@@ -9,9 +9,7 @@ use native.Mathlib.Omega.{arith}
 use lib.Dec.{leb, ltb}
 use Rattle.std.proofs.shelf.Ways.{tells}
 use Rattle.std.proofs.shelf.Tests.{cases-bool, cond-false, cases-order}
-use Rattle.meaning.specs.Slots.{upto, from}
-use Rattle.meaning.specs.Rows.{anyOf}
-use Rattle.meaning.specs.Counts.{tally}
+use Rattle.meaning.specs.Lists.{upto, from, anyOf, tally}
 
 -- the sum of f over the numbers below n, and over a list
 abbrev pub sumTo : ℕ → (ℕ → ℕ) → ℕ

@@ -11,6 +11,7 @@ use Rattle.std.specs.declared.result.Result.{Result}
 use Rattle.std.specs.declared.result.Result.the-variants.{Ok, Err}
 use Rattle.meaning.specs.Forest.{numbers}
 use Rattle.meaning.specs.Model.{Model, Shape, prim, struct, list, map, Code, bits, words, variable, fixedSizeBinary, structs, lists, largeLists, fixedSizeLists, maps, at, children}
+use Rattle.meaning.specs.Lists.{among}
 
 pub record StepFault : Type 0 where
   pub number : ℕ
@@ -26,10 +27,6 @@ Pick = ℕ → ℕ → Option ℕ
 
 abbrev pub kids : Model → ℕ → List ℕ
 kids m c = numbers (c + 1) (children m c)
-
-abbrev pub among : ℕ → List ℕ → Bool
-among k [] = false
-among k (n ∷ ns) = eqb k n || among k ns
 
 abbrev pub Own : Model → Pick → Type 0
 Own m pick = (c f k : ℕ) → pick c f ≡ Some k → among k (kids m c) ≡ true

@@ -11,11 +11,11 @@ use Rattle.std.specs.declared.result.Result.the-variants.{Ok, Err}
 use Rattle.meaning.specs.Forest.{Forest}
 use Rattle.meaning.specs.Model.{Model, Field}
 use Rattle.meaning.specs.Access.{Pick, Own, fault}
-use Rattle.meaning.specs.Counts.{float?, nans, reached}
-use Rattle.meaning.specs.Law.{Table, Answer, added, hasId, addReaches}
+use Rattle.meaning.specs.Reaches.{float?, nans, reached}
+use Rattle.meaning.specs.CounterLaw.{Table, Answer, added, hasId, addReaches}
 use Rattle.meaning.specs.Keeps.{Keeps}
 use Rattle.meaning.specs.Walk.{Step, ret, refuse, Hooks, fieldAt, missing, visitStruct}
-use Rattle.meaning.specs.Ideal.{refuseIf}
+use Rattle.meaning.specs.Converter.{refuseIf}
 
 -- column c is reached under field n, whose id this is: a column that is no float column adds nothing, and a 257th id is refused
 abbrev pub countReach : Model → ℤ → ℕ → ℕ → Step Table (Unit {0})

@@ -1,5 +1,7 @@
 pub mod Forest
 pub mod Model
+pub mod Lists
+pub mod Equal
 pub mod Items
 pub mod Schema
 pub mod Columns
@@ -9,13 +11,13 @@ pub mod Keeps
 pub mod Accepts
 pub mod Slots
 pub mod Access
-pub mod Match
+pub mod Picks
 pub mod Rows
-pub mod Refusals
-pub mod Counts
-pub mod Law
+pub mod Converts
+pub mod Reaches
+pub mod CounterLaw
 pub mod Walk
-pub mod Ideal
+pub mod Converter
 pub mod Counter
 pub mod Text
 pub mod Print

@@ -12,9 +12,9 @@ use Rattle.meaning.specs.Text.{decimal, integer, hex, bytes, batchFaultLine, s
 use Rattle.meaning.specs.File.{decode}
 use Rattle.meaning.specs.Access.{Pick, StepFault}
 use Rattle.meaning.specs.Rows.{Values, rows, Literal, nullLiteral, booleanLiteral, intLiteral, longLiteral, floatLiteral, doubleLiteral, bytesLiteral, structLiteral, listLiteral, mapLiteral}
-use Rattle.meaning.specs.Refusals.{converts}
-use Rattle.meaning.specs.Counts.{reached}
-use Rattle.meaning.specs.Law.{Table, addReaches}
+use Rattle.meaning.specs.Converts.{converts}
+use Rattle.meaning.specs.Reaches.{reached}
+use Rattle.meaning.specs.CounterLaw.{Table, addReaches}
 
 -- what stands between two parts: at the first nothing, in a map a colon before each value, else a comma
 abbrev between : Bool → Bool → Bool → List ℕ

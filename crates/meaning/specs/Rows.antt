@@ -9,8 +9,11 @@ use Rattle.std.specs.declared.option.Option.{Option}
 use Rattle.std.specs.declared.option.Option.the-variants.{Some, None}
 use Rattle.meaning.specs.Forest.{Forest, none, tree, size, beside}
 use Rattle.meaning.specs.Model.{Model, Column, Field, Shape, prim, struct, list, map, Primitive, boolean, int, long, float, double, date, time, timestamp, timestamptz, timestampNs, timestamptzNs, string, uuid, fixed, binary, at}
-use Rattle.meaning.specs.Slots.{null, bit, span, stored, signed, nan32, nan64, upto, spanSlots}
+use Rattle.meaning.specs.Lists.{upto, anyOf, orZero}
+use Rattle.meaning.specs.Items.{signed}
+use Rattle.meaning.specs.Slots.{null, bit, span, stored, nan32, nan64, spanSlots}
 use Rattle.meaning.specs.Access.{Pick, kids}
+use Rattle.meaning.specs.Equal.{sameBytes}
 
 -- a value without its parts, which stand below it: a struct's fields, a list's elements, a map's keys and values in turn
 pub data Literal : Type 0 where
@@ -57,18 +60,6 @@ literalBy map x i = mapLiteral
 abbrev pub literalAt : Shape → Column → ℕ → Literal
 literalAt s x i = cond (null x i) nullLiteral (literalBy s x i)
 
-abbrev pub sameBytes : List ℕ → List ℕ → Bool
-sameBytes [] [] = true
-sameBytes [] (y ∷ ys) = false
-sameBytes (x ∷ xs) [] = false
-sameBytes (x ∷ xs) (y ∷ ys) = eqb x y && sameBytes xs ys
-
-abbrev pub sameWhole : ℤ → ℤ → Bool
-sameWhole (pos a) (pos b) = eqb a b
-sameWhole (pos a) (negsuc b) = false
-sameWhole (negsuc a) (pos b) = false
-sameWhole (negsuc a) (negsuc b) = eqb a b
-
 -- 0 and -0 are one number, and all NaNs are one key
 abbrev pub zero32 : ℕ → Bool
 zero32 a = eqb a 0 || eqb a 2147483648
@@ -106,10 +97,6 @@ sameBy struct x i j = eqb i j
 sameBy list x i j = eqb i j
 sameBy map x i j = eqb i j
 
-abbrev pub anyOf : (ℕ → Bool) → List ℕ → Bool
-anyOf f [] = false
-anyOf f (j ∷ js) = f j || anyOf f js
-
 -- the last of the slots js whose key is that of slot i, or i
 abbrev pub lastSame : (ℕ → Bool) → ℕ → List ℕ → ℕ
 lastSame same i [] = i
@@ -126,10 +113,6 @@ kept same is = keptFrom same [] is
 abbrev pub joined : {X : Type 0} → (X → Values) → List X → Values
 joined f [] = none
 joined f (x ∷ xs) = beside (f x) (joined f xs)
-
-abbrev pub orZero : Option ℕ → ℕ
-orZero None = 0
-orZero (Some k) = k
 
 module _ (m : Model) (pick : Pick) where
   -- what stands below the value of slot i of column c, for a type of this shape whose fields are these, the first being n

@@ -8,6 +8,8 @@ use lib.IntN.{ℤ, pos, negsuc}
 use Rattle.std.specs.declared.option.Option.{Option}
 use Rattle.std.specs.declared.option.Option.the-variants.{Some, None}
 use Rattle.meaning.specs.Model.{Column, Code, Word, int32, int64, float32, float64, date32, time64, micros, nanos, bits, words, variable, fixedSizeBinary, structs, lists, largeLists, fixedSizeLists, maps}
+use Rattle.meaning.specs.Lists.{from}
+use Rattle.meaning.specs.Items.{little}
 
 -- bits run from bit 0 of the first byte
 abbrev pub bit : List ℕ → ℕ → Bool
@@ -20,14 +22,6 @@ unset (Some bs) i = not (bit bs i)
 -- a slot is null where the column has it, has validity bits, and its bit is 0
 abbrev pub null : Column → ℕ → Bool
 null x i = ltb i (x .len) && unset (x .validity) i
-
-abbrev pub upto : ℕ → List ℕ
-upto zero = []
-upto (suc n) = 0 ∷ map suc (upto n)
-
--- the n numbers from a on
-abbrev pub from : ℕ → ℕ → List ℕ
-from a n = map (λ k. a + k) (upto n)
 
 abbrev pub spanBy : Code → List ℕ → ℕ → ℕ × ℕ
 spanBy bits os i = (0, 0)
@@ -48,16 +42,8 @@ span x i = spanBy (x .code) (x .offsets) i
 abbrev pub spanSlots : Column → ℕ → List ℕ
 spanSlots x i = from (span x i .0) (span x i .1 - span x i .0)
 
--- low byte first
-abbrev pub little : List ℕ → ℕ
-little [] = 0
-little (b ∷ bs) = b + 256 * little bs
-
 abbrev pub stored : ℕ → List ℕ → ℕ → ℕ
 stored w body i = little (take w (drop (i * w) body))
-
-abbrev pub signed : ℕ → ℕ → ℤ
-signed w n = cond (ltb n (2 ^ (8 * w - 1))) (pos n) (negsuc (2 ^ (8 * w) - n - 1))
 
 -- the exponent's bits are all ones and the fraction is not 0
 abbrev pub nan32 : ℕ → Bool

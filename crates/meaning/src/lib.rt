@@ -1,10 +1,10 @@
 ghost use Rattle.meaning.specs.Access.{Own};
-ghost use Rattle.meaning.specs.Ideal.{Converted-law};
-ghost use Rattle.meaning.specs.Match.{byId, byName};
+ghost use Rattle.meaning.specs.Converter.{Converted-law};
+ghost use Rattle.meaning.specs.Picks.{byId, byName};
 ghost use Rattle.meaning.specs.Model.{Model};
 ghost use Rattle.meaning.specs.Counter.{Counted-law};
 ghost use Rattle.meaning.specs.Accepts.{Accepts-law};
-ghost use Rattle.meaning.specs.Law.{Sums-law, Rows-law};
+ghost use Rattle.meaning.specs.CounterLaw.{Sums-law, Rows-law};
 
 // What is accepted is exactly the encodings of the batches that keep the rules.
 pub fn accepts_stand() -> u8

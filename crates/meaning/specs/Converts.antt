@@ -1,6 +1,6 @@
 -- When conversion refuses, in the order of the walk, and how many cells it takes.
 use mathlib.Core.List.{List, [], _∷_}
-use mathlib.Core.Bool.{Bool, true, false, cond, not, _&&_}
+use mathlib.Core.Bool.{Bool, true, false, cond, not, _&&_, _||_}
 use Prim.Native.Nat.{ℕ, _+_, _*_}
 use lib.Dec.{leb, eqb}
 use lib.ListN.{length, getD}
@@ -8,7 +8,8 @@ use Rattle.std.specs.declared.result.Result.{Result}
 use Rattle.std.specs.declared.result.Result.the-variants.{Ok, Err}
 use Rattle.meaning.specs.Forest.{Forest, none, tree, size, count}
 use Rattle.meaning.specs.Model.{Model, Field, Shape, prim, struct, list, map, Primitive, boolean, int, long, float, double, date, time, timestamp, timestamptz, timestampNs, timestamptzNs, string, uuid, fixed, binary, Code, bits, words, variable, fixedSizeBinary, structs, lists, largeLists, fixedSizeLists, maps, int32, int64, float32, float64, date32, time64, micros, nanos, utf8, largeUtf8, binaries, largeBinary, at}
-use Rattle.meaning.specs.Slots.{null, upto, spanSlots}
+use Rattle.meaning.specs.Lists.{upto, anyOf, sum}
+use Rattle.meaning.specs.Slots.{null, spanSlots}
 use Rattle.meaning.specs.Access.{Pick, StepFault, fault, kids, partner, struct?}
 use Rattle.meaning.specs.Rows.{sameBy, kept}
 
@@ -37,9 +38,6 @@ codeOf maps = (20, 0)
 abbrev pub is : Code → ℕ → ℕ → Bool
 is k n w = eqb (codeOf k .0) n && eqb (codeOf k .1) w
 
-abbrev pub or : Bool → Bool → Bool
-or a b = cond a true b
-
 abbrev pub accepts : Primitive → Code → Bool
 accepts boolean k = is k 1 0
 accepts int k = is k 2 0
@@ -52,18 +50,10 @@ accepts timestamp k = is k 9 0
 accepts timestamptz k = is k 9 0
 accepts timestampNs k = is k 10 0
 accepts timestamptzNs k = is k 10 0
-accepts string k = or (is k 11 0) (is k 12 0)
+accepts string k = is k 11 0 || is k 12 0
 accepts uuid k = is k 13 16
 accepts (fixed n) k = is k 13 n
-accepts binary k = or (is k 14 0) (is k 15 0)
-
-abbrev pub some : (ℕ → Bool) → List ℕ → Bool
-some f [] = false
-some f (j ∷ js) = or (f j) (some f js)
-
-abbrev pub sum : (ℕ → ℕ) → List ℕ → ℕ
-sum f [] = 0
-sum f (j ∷ js) = f j + sum f js
+accepts binary k = is k 14 0 || is k 15 0
 
 abbrev pub firstRequired : Forest Field → Bool
 firstRequired none = false
@@ -83,7 +73,7 @@ module _ (m : Model) (pick : Pick) (cells : ℕ) where
 
   -- a null of column p among the slots that the slots of c that are not null cut out
   abbrev pub nullInSpans : ℕ → ℕ → Bool
-  nullInSpans c p = some (λ i. not (null (at m c) i) && some (λ j. null (at m p) j) (spanSlots (at m c) i)) (upto (at m c .len))
+  nullInSpans c p = anyOf (λ i. not (null (at m c) i) && anyOf (λ j. null (at m p) j) (spanSlots (at m c) i)) (upto (at m c .len))
 
   -- a type's own step
   abbrev pub ownHook : Shape → Forest Field → ℕ → ℕ → ℕ → Result ℕ StepFault
@@ -101,7 +91,7 @@ module _ (m : Model) (pick : Pick) (cells : ℕ) where
   -- what `field` refuses: a null of a required field where its struct is not null
   abbrev pub fieldHook : Shape → Field → ℕ → ℕ → ℕ → ℕ → Result ℕ StepFault
   fieldHook (prim k) f n c p taken = Ok taken
-  fieldHook struct f n c p taken = cond (f .required && some (λ i. not (null (at m c) i) && null (at m p) i) (upto (at m c .len))) (Err (fault 15 p n)) (Ok taken)
+  fieldHook struct f n c p taken = cond (f .required && anyOf (λ i. not (null (at m c) i) && null (at m p) i) (upto (at m c .len))) (Err (fault 15 p n)) (Ok taken)
   fieldHook list f n c p taken = Ok taken
   fieldHook map f n c p taken = Ok taken
 

@@ -11,10 +11,12 @@ use Rattle.std.specs.declared.result.Result.{Result}
 use Rattle.std.specs.declared.result.Result.the-variants.{Ok, Err}
 use Rattle.meaning.specs.Forest.{Forest, none, tree, size}
 use Rattle.meaning.specs.Model.{Model, Column, Field, Shape, prim, struct, list, map, Primitive, Code, bits, words, variable, fixedSizeBinary, structs, lists, largeLists, fixedSizeLists, maps, at}
-use Rattle.meaning.specs.Slots.{null, span, upto, spanSlots}
+use Rattle.meaning.specs.Lists.{upto, anyOf, sum}
+use Rattle.meaning.specs.Slots.{null, span, spanSlots}
 use Rattle.meaning.specs.Access.{Pick, Own, StepFault, fault, struct?, list?, map?}
-use Rattle.meaning.specs.Rows.{Values, joined, kept, sameBytes, sameWhole, same32, same64, rows, Literal, nullLiteral, booleanLiteral, intLiteral, longLiteral, floatLiteral, doubleLiteral, bytesLiteral, structLiteral, listLiteral, mapLiteral, literalAt}
-use Rattle.meaning.specs.Refusals.{accepts, some, sum, converts, firstRequired, afterFirst}
+use Rattle.meaning.specs.Equal.{sameInteger, sameBytes, sameBoolean}
+use Rattle.meaning.specs.Rows.{Values, joined, kept, same32, same64, rows, Literal, nullLiteral, booleanLiteral, intLiteral, longLiteral, floatLiteral, doubleLiteral, bytesLiteral, structLiteral, listLiteral, mapLiteral, literalAt}
+use Rattle.meaning.specs.Converts.{accepts, converts, firstRequired, afterFirst}
 use Rattle.meaning.specs.Keeps.{Keeps}
 use Rattle.meaning.specs.Walk.{Step, ret, refuse, Hooks, fieldAt, typeAt, missing, visitStruct}
 
@@ -47,14 +49,10 @@ abbrev pub listed : Values → List Value
 listed none = []
 listed (tree x ps rest) = (x, ps) ∷ listed rest
 
--- keys are compared by value: floats are one key if both are NaN or they are one number (so -0 is +0), others by content; a key is a primitive value
-abbrev pub sameTruth : Bool → Bool → Bool
-sameTruth a b = cond a b (not b)
-
 abbrev pub sameLiteral : Literal → Literal → Bool
-sameLiteral (booleanLiteral a) y = elim y [ booleanLiteral b ↦ sameTruth a b | nullLiteral ↦ false | intLiteral z ↦ false | longLiteral z ↦ false | floatLiteral b ↦ false | doubleLiteral b ↦ false | bytesLiteral bs ↦ false | structLiteral ↦ false | listLiteral ↦ false | mapLiteral ↦ false ]
-sameLiteral (intLiteral a) y = elim y [ intLiteral b ↦ sameWhole a b | nullLiteral ↦ false | booleanLiteral b ↦ false | longLiteral z ↦ false | floatLiteral b ↦ false | doubleLiteral b ↦ false | bytesLiteral bs ↦ false | structLiteral ↦ false | listLiteral ↦ false | mapLiteral ↦ false ]
-sameLiteral (longLiteral a) y = elim y [ longLiteral b ↦ sameWhole a b | nullLiteral ↦ false | booleanLiteral b ↦ false | intLiteral z ↦ false | floatLiteral b ↦ false | doubleLiteral b ↦ false | bytesLiteral bs ↦ false | structLiteral ↦ false | listLiteral ↦ false | mapLiteral ↦ false ]
+sameLiteral (booleanLiteral a) y = elim y [ booleanLiteral b ↦ sameBoolean a b | nullLiteral ↦ false | intLiteral z ↦ false | longLiteral z ↦ false | floatLiteral b ↦ false | doubleLiteral b ↦ false | bytesLiteral bs ↦ false | structLiteral ↦ false | listLiteral ↦ false | mapLiteral ↦ false ]
+sameLiteral (intLiteral a) y = elim y [ intLiteral b ↦ sameInteger a b | nullLiteral ↦ false | booleanLiteral b ↦ false | longLiteral z ↦ false | floatLiteral b ↦ false | doubleLiteral b ↦ false | bytesLiteral bs ↦ false | structLiteral ↦ false | listLiteral ↦ false | mapLiteral ↦ false ]
+sameLiteral (longLiteral a) y = elim y [ longLiteral b ↦ sameInteger a b | nullLiteral ↦ false | booleanLiteral b ↦ false | intLiteral z ↦ false | floatLiteral b ↦ false | doubleLiteral b ↦ false | bytesLiteral bs ↦ false | structLiteral ↦ false | listLiteral ↦ false | mapLiteral ↦ false ]
 sameLiteral (floatLiteral a) y = elim y [ floatLiteral b ↦ same32 a b | nullLiteral ↦ false | booleanLiteral b ↦ false | intLiteral z ↦ false | longLiteral z ↦ false | doubleLiteral b ↦ false | bytesLiteral bs ↦ false | structLiteral ↦ false | listLiteral ↦ false | mapLiteral ↦ false ]
 sameLiteral (doubleLiteral a) y = elim y [ doubleLiteral b ↦ same64 a b | nullLiteral ↦ false | booleanLiteral b ↦ false | intLiteral z ↦ false | longLiteral z ↦ false | floatLiteral b ↦ false | bytesLiteral bs ↦ false | structLiteral ↦ false | listLiteral ↦ false | mapLiteral ↦ false ]
 sameLiteral (bytesLiteral a) y = elim y [ bytesLiteral b ↦ sameBytes a b | nullLiteral ↦ false | booleanLiteral b ↦ false | intLiteral z ↦ false | longLiteral z ↦ false | floatLiteral b ↦ false | doubleLiteral b ↦ false | structLiteral ↦ false | listLiteral ↦ false | mapLiteral ↦ false ]
@@ -131,10 +129,10 @@ listRows maps len l = len
 
 -- the spans of a column's first slots: one that ends past a result; a null of a result in the span of a slot that is not null
 abbrev pub pastEnd : Column → ℕ → ℕ → Bool
-pastEnd x rows l = some (λ i. ltb l (span x i .1)) (upto rows)
+pastEnd x rows l = anyOf (λ i. ltb l (span x i .1)) (upto rows)
 
 abbrev pub nullInSpan : Column → ℕ → List Value → Bool
-nullInSpan x rows t = some (λ i. not (null x i) && some (λ j. isNullLiteral (slot t j .0)) (spanSlots x i)) (upto rows)
+nullInSpan x rows t = anyOf (λ i. not (null x i) && anyOf (λ j. isNullLiteral (slot t j .0)) (spanSlots x i)) (upto rows)
 
 -- a row for each of so many slots: null where the slot is null, else this item over these parts
 abbrev pub rowValues : Column → ℕ → Literal → (ℕ → Values) → List Value
@@ -172,7 +170,7 @@ module _ (m : Model) (cells : ℕ) where
 
   -- a required field's null at a slot where the struct that holds the column is not null
   abbrev pub nullRequired : ℕ → List Value → Bool
-  nullRequired c t = some (λ i. not (struct? m (holder m c) && null (at m (holder m c)) i) && isNullLiteral (slot t i .0)) (upto (length t))
+  nullRequired c t = anyOf (λ i. not (struct? m (holder m c) && null (at m (holder m c)) i) && isNullLiteral (slot t i .0)) (upto (length t))
 
   abbrev pub fieldStep : ℕ → ℕ → List Value → Step ℕ (List Value)
   fieldStep n c t =

@@ -9,6 +9,7 @@ use Rattle.std.specs.declared.option.Option.the-variants.{Some, None}
 use Rattle.meaning.specs.Forest.{Forest, none, tree, size, find}
 use Rattle.meaning.specs.Model.{Model, Field, Column, children}
 use Rattle.meaning.specs.Access.{Pick}
+use Rattle.meaning.specs.Equal.{sameInteger, sameBytes}
 
 -- the value of the digits, those before them being v
 abbrev digitsValue : ℕ → List ℕ → Option ℕ
@@ -35,25 +36,13 @@ abbrev pub idOf : List ℕ → Option ℤ
 idOf [] = None
 idOf (b ∷ bs) = cond (eqb b 43) (positive (digitsOnly bs)) (cond (eqb b 45) (negative (digitsOnly bs)) (positive (digitsOnly (b ∷ bs))))
 
-abbrev sameId : ℤ → ℤ → Bool
-sameId (pos a) (pos b) = eqb a b
-sameId (pos a) (negsuc b) = false
-sameId (negsuc a) (pos b) = false
-sameId (negsuc a) (negsuc b) = eqb a b
-
 abbrev pub readId : Option (List ℕ) → Option ℤ
 readId None = None
 readId (Some bs) = idOf bs
 
 abbrev pub isId : ℤ → Option ℤ → Bool
 isId id None = false
-isId id (Some z) = sameId id z
-
-abbrev pub sameBytes : List ℕ → List ℕ → Bool
-sameBytes [] [] = true
-sameBytes [] (y ∷ ys) = false
-sameBytes (x ∷ xs) [] = false
-sameBytes (x ∷ xs) (y ∷ ys) = eqb x y && sameBytes xs ys
+isId id (Some z) = sameInteger id z
 
 -- the number of the first column that passes
 abbrev pub firstChild : (Column → Bool) → ℕ → Forest Column → Option ℕ

@@ -11,9 +11,11 @@ use Rattle.std.specs.declared.result.Result.{Result}
 use Rattle.std.specs.declared.result.Result.the-variants.{Ok, Err}
 use Rattle.meaning.specs.Forest.{Forest, none, tree, size}
 use Rattle.meaning.specs.Model.{Model, Field, Shape, prim, struct, list, map, float32, float64, int32, int64, date32, time64, micros, nanos, Code, bits, words, variable, fixedSizeBinary, structs, lists, largeLists, fixedSizeLists, maps, at}
-use Rattle.meaning.specs.Slots.{null, nan, nan32, nan64, span, from, upto}
+use Rattle.meaning.specs.Lists.{upto, from, anyOf, tally}
+use Rattle.meaning.specs.Slots.{null, nan, nan32, nan64, span}
 use Rattle.meaning.specs.Access.{Pick, StepFault, partner}
-use Rattle.meaning.specs.Rows.{Values, sameBy, anyOf, Literal, nullLiteral, booleanLiteral, intLiteral, longLiteral, floatLiteral, doubleLiteral, bytesLiteral, structLiteral, listLiteral, mapLiteral}
+use Rattle.meaning.specs.Rows.{Values, sameBy, Literal, nullLiteral, booleanLiteral, intLiteral, longLiteral, floatLiteral, doubleLiteral, bytesLiteral, structLiteral, listLiteral, mapLiteral}
+use Rattle.meaning.specs.Equal.{sameInteger}
 
 -- a column reached under an id, and which of its slots the rows show
 pub record Reach : Type 0 where
@@ -21,16 +23,6 @@ pub record Reach : Type 0 where
   pub field : ℕ
   pub column : ℕ
   pub shown : ℕ → Bool
-
-abbrev pub sameId : ℤ → ℤ → Bool
-sameId (pos a) (pos b) = eqb a b
-sameId (pos a) (negsuc b) = false
-sameId (negsuc a) (pos b) = false
-sameId (negsuc a) (negsuc b) = eqb a b
-
-abbrev pub tally : (ℕ → Bool) → List ℕ → ℕ
-tally f [] = 0
-tally f (j ∷ js) = cond (f j) 1 0 + tally f js
 
 abbrev pub Found : Type 0
 Found = List Reach × Option StepFault
@@ -130,8 +122,8 @@ abbrev pub nansIn : ℤ → Forest Field → Shape → Values → ℕ
 nansIn id none s vs = 0
 nansIn id (tree f below rest) (prim p) vs = 0
 nansIn id (tree f below rest) struct none = 0
-nansIn id (tree f below rest) struct (tree x ps more) = cond (sameId id (f .id) && nanLiteral x) 1 0 + (nansIn id below (f .shape) ps + nansIn id rest struct more)
-nansIn id (tree f below rest) list vs = sumElements (λ x ps. cond (sameId id (f .id) && nanLiteral x) 1 0 + nansIn id below (f .shape) ps) vs
+nansIn id (tree f below rest) struct (tree x ps more) = cond (sameInteger id (f .id) && nanLiteral x) 1 0 + (nansIn id below (f .shape) ps + nansIn id rest struct more)
+nansIn id (tree f below rest) list vs = sumElements (λ x ps. cond (sameInteger id (f .id) && nanLiteral x) 1 0 + nansIn id below (f .shape) ps) vs
 nansIn id (tree f below none) map vs = 0
 nansIn id (tree f below (tree g under′ rest)) map vs =
-    sumPairs (λ x ps. cond (sameId id (f .id) && nanLiteral x) 1 0 + nansIn id below (f .shape) ps) (λ x ps. cond (sameId id (g .id) && nanLiteral x) 1 0 + nansIn id under′ (g .shape) ps) vs
+    sumPairs (λ x ps. cond (sameInteger id (f .id) && nanLiteral x) 1 0 + nansIn id below (f .shape) ps) (λ x ps. cond (sameInteger id (g .id) && nanLiteral x) 1 0 + nansIn id under′ (g .shape) ps) vs

@@ -15,8 +15,10 @@ use Rattle.meaning.specs.Model.{Model, struct}
 use Rattle.meaning.specs.Keeps.{Keeps}
 use Rattle.meaning.specs.Access.{Pick, Own, StepFault, fault}
 use Rattle.meaning.specs.Rows.{Values, rows}
-use Rattle.meaning.specs.Refusals.{converts}
-use Rattle.meaning.specs.Counts.{Reach, reached, nans, hiddenNans, float?, nansIn, sameId}
+use Rattle.meaning.specs.Converts.{converts}
+use Rattle.meaning.specs.Equal.{sameInteger}
+use Rattle.meaning.specs.Reaches.{Reach, reached, nans, hiddenNans, float?, nansIn}
+use Rattle.meaning.specs.Lists.{orZero}
 
 -- one `compute`: a batch that keeps the file's rules, and an accessor by its pick
 pub record Call : Type 0 where
@@ -38,9 +40,6 @@ below (pos a) (negsuc b) = false
 below (negsuc a) (pos b) = true
 below (negsuc a) (negsuc b) = leb (b + 1) a
 
-abbrev pub same : ℤ → ℤ → Bool
-same a b = sameId a b
-
 abbrev pub saturated : ℕ → ℕ
 saturated n = min n (2 ^ 64 - 1)
 
@@ -48,16 +47,16 @@ saturated n = min n (2 ^ 64 - 1)
 abbrev pub added : Table → ℤ → ℕ → Table
 added [] id n = record { id = id; count = saturated n } ∷ []
 added (e ∷ es) id n =
-    cond (same id (e .id)) (record { id = id; count = saturated (e .count + n) } ∷ es)
+    cond (sameInteger id (e .id)) (record { id = id; count = saturated (e .count + n) } ∷ es)
     (cond (below id (e .id)) (record { id = id; count = saturated n } ∷ (e ∷ es)) (e ∷ added es id n))
 
 abbrev pub countOf : Table → ℤ → Option ℕ
 countOf [] id = None
-countOf (e ∷ es) id = cond (same id (e .id)) (Some (e .count)) (countOf es id)
+countOf (e ∷ es) id = cond (sameInteger id (e .id)) (Some (e .count)) (countOf es id)
 
 abbrev pub hasId : Table → ℤ → Bool
 hasId [] id = false
-hasId (e ∷ es) id = cond (same id (e .id)) true (hasId es id)
+hasId (e ∷ es) id = cond (sameInteger id (e .id)) true (hasId es id)
 
 abbrev pub Answer : Type 0
 Answer = Result (Unit {0}) StepFault
@@ -81,11 +80,11 @@ floatAdditions m (r ∷ rs) = cond (float? m (r .column)) ((r .id, nans m (r .co
 
 abbrev pub sumOf : ℤ → List (ℤ × ℕ) → ℕ
 sumOf id [] = 0
-sumOf id (x ∷ xs) = cond (same id (x .0)) (x .1) 0 + sumOf id xs
+sumOf id (x ∷ xs) = cond (sameInteger id (x .0)) (x .1) 0 + sumOf id xs
 
 abbrev pub mentions : ℤ → List (ℤ × ℕ) → Bool
 mentions id [] = false
-mentions id (x ∷ xs) = cond (same id (x .0)) true (mentions id xs)
+mentions id (x ∷ xs) = cond (sameInteger id (x .0)) true (mentions id xs)
 
 abbrev pub distinctIds : List (ℤ × ℕ) → ℕ
 distinctIds [] = 0
@@ -127,11 +126,7 @@ pub record Sums-law : Type 0 where
 
 abbrev pub hiddenNansOf : Call → ℤ → List Reach → ℕ
 hiddenNansOf c id [] = 0
-hiddenNansOf c id (r ∷ rs) = cond (same id (r .id)) (hiddenNans (c .model) r) 0 + hiddenNansOf c id rs
-
-abbrev pub orZero : Option ℕ → ℕ
-orZero None = 0
-orZero (Some n) = n
+hiddenNansOf c id (r ∷ rs) = cond (sameInteger id (r .id)) (hiddenNans (c .model) r) 0 + hiddenNansOf c id rs
 
 abbrev pub rowNans : ℤ → Call → Values → ℕ
 rowNans id c none = 0

@@ -1,0 +1,41 @@
+-- Lists of slot numbers: which there are, whether one passes a test, and what they add up to.
+use mathlib.Core.List.{List, [], _∷_, map}
+use mathlib.Core.Bool.{Bool, true, false, cond, _||_}
+use Prim.Native.Nat.{ℕ, zero, suc, _+_}
+use lib.Dec.{eqb}
+use Rattle.std.specs.declared.option.Option.{Option}
+use Rattle.std.specs.declared.option.Option.the-variants.{Some, None}
+
+-- the numbers below n, from 0 on
+abbrev pub upto : ℕ → List ℕ
+upto zero = []
+upto (suc n) = 0 ∷ map suc (upto n)
+
+-- the n numbers from a on
+abbrev pub from : ℕ → ℕ → List ℕ
+from a n = map (λ k. a + k) (upto n)
+
+-- whether k is one of the numbers
+abbrev pub among : ℕ → List ℕ → Bool
+among k [] = false
+among k (n ∷ ns) = eqb k n || among k ns
+
+-- whether one of them passes the test
+abbrev pub anyOf : (ℕ → Bool) → List ℕ → Bool
+anyOf f [] = false
+anyOf f (j ∷ js) = f j || anyOf f js
+
+-- the sum of a number for each
+abbrev pub sum : (ℕ → ℕ) → List ℕ → ℕ
+sum f [] = 0
+sum f (j ∷ js) = f j + sum f js
+
+-- how many of them pass the test
+abbrev pub tally : (ℕ → Bool) → List ℕ → ℕ
+tally f [] = 0
+tally f (j ∷ js) = cond (f j) 1 0 + tally f js
+
+-- a number that may be absent, absent being 0
+abbrev pub orZero : Option ℕ → ℕ
+orZero None = 0
+orZero (Some k) = k
