@@ -12,7 +12,7 @@ use Rattle.std.specs.declared.result.Result.the-variants.{Ok}
 use Rattle.std.proofs.shelf.Tests.{eq-eqb, ne-eqb}
 use Rattle.meaning.specs.Forest.{Forest, none, tree, size}
 use Rattle.meaning.specs.Model.{Model, Field, Shape, prim, struct, list, map, at}
-use Rattle.meaning.specs.Lists.{upto, from, anyOf, orZero}
+use Rattle.meaning.specs.Lists.{upto, from, anyOf, orZero, sum}
 use Rattle.meaning.specs.Slots.{null, nan, span, spanSlots}
 use Rattle.meaning.specs.Access.{Pick, Own, kids, partner}
 use Rattle.meaning.specs.Rows.{Values, sameBy, kept, joined, parts, Literal, literalAt}
@@ -21,7 +21,7 @@ use Rattle.meaning.specs.Equal.{sameInteger}
 use Rattle.meaning.specs.Reaches.{reaches, nansIn, nanLiteral, shownWithin, sumElements, sumPairs}
 use Rattle.meaning.proofs.Enough.{Plain, Holds, Shaped, Enough}
 use Rattle.meaning.proofs.Keys.{same-alike}
-use Rattle.meaning.proofs.Totals.{sumTo, total, anyTo, any-upto, sum-ext, sum-none, sum-add, sum-cond, Cuts, hit, sum-cuts}
+use Rattle.meaning.proofs.Totals.{sumTo, anyTo, any-upto, sum-ext, sum-none, sum-add, sum-cond, Cuts, hit, sum-cuts}
 use Rattle.meaning.proofs.Pairs.{sum-kept}
 use Rattle.meaning.proofs.Spans.{list-cuts, map-cuts}
 use Rattle.meaning.proofs.Accepted.{target, Step, step, item-nan}
@@ -44,12 +44,12 @@ nans-plain id (tree f below rest) list vs h = absurd h
 nans-plain id (tree f below rest) map vs h = absurd h
 
 -- the elements of a list and the pairs of a map, one after another
-each-joined : {X : Type 0} (F : Literal → Values → ℕ) (x : X → Literal) (ps : X → Values) (js : List X) → sumElements F (joined (λ j. tree (x j) (ps j) none) js) ≡ total (λ j. F (x j) (ps j)) js
+each-joined : {X : Type 0} (F : Literal → Values → ℕ) (x : X → Literal) (ps : X → Values) (js : List X) → sumElements F (joined (λ j. tree (x j) (ps j) none) js) ≡ sum (λ j. F (x j) (ps j)) js
 each-joined F x ps [] = refl
 each-joined F x ps (j ∷ js) = ap (λ k. F (x j) (ps j) + k) (each-joined F x ps js)
 
 pairs-joined : {X : Type 0} (F G : Literal → Values → ℕ) (x y : X → Literal) (ps qs : X → Values) (js : List X)
-    → sumPairs F G (joined (λ j. tree (x j) (ps j) (tree (y j) (qs j) none)) js) ≡ total (λ j. F (x j) (ps j) + G (y j) (qs j)) js
+    → sumPairs F G (joined (λ j. tree (x j) (ps j) (tree (y j) (qs j) none)) js) ≡ sum (λ j. F (x j) (ps j) + G (y j) (qs j)) js
 pairs-joined F G x y ps qs [] = refl
 pairs-joined F G x y ps qs (j ∷ js) = omega (arith, pairs-joined F G x y ps qs js)
 
@@ -60,7 +60,7 @@ slot-sum b true true v X F e = grind arith
 slot-sum b false true v X F e = grind arith
 
 -- sums over a list, term by term
-total-ext : {X : Type 0} (f g : X → ℕ) → ((x : X) → f x ≡ g x) → (xs : List X) → total f xs ≡ total g xs
+total-ext : {X : Type 0} (f g : X → ℕ) → ((x : X) → f x ≡ g x) → (xs : List X) → sum f xs ≡ sum g xs
 total-ext f g e [] = refl
 total-ext f g e (x ∷ xs) = ap₂ _+_ (e x) (total-ext f g e xs)
 
@@ -134,7 +134,7 @@ module _ (m : Model) (pick : Pick) (id : ℤ) where
     within-any j = any-ext _ _ (λ i. sym (and-assoc (shown i) (not (null (at m c) i)) _)) (upto (at m c .len)) ∙ any-upto _ (at m c .len)
 
     within-sum : (p : ℕ) (f : ℕ → ℕ) → Cut c p
-        → sumTo (at m p .len) (λ j. cond (shownWithin m pick c shown fits j) (f j) 0) ≡ sumTo (at m c .len) (λ i. cond (live c shown i) (total (λ j. cond (fits (lo c i) (hi c i) j) (f j) 0) (spanSlots (at m c) i)) 0)
+        → sumTo (at m p .len) (λ j. cond (shownWithin m pick c shown fits j) (f j) 0) ≡ sumTo (at m c .len) (λ i. cond (live c shown i) (sum (λ j. cond (fits (lo c i) (hi c i) j) (f j) 0) (spanSlots (at m c) i)) 0)
     within-sum p f k =
         sum-ext (at m p .len) _ _ (λ j h. ap (λ (b : Bool). cond b (f j) 0) (within-any j))
         ∙ sum-cuts (at m c .len) (at m p .len) (lo c) (hi c) k (live c shown) fits f
@@ -168,7 +168,7 @@ module _ (m : Model) (pick : Pick) (id : ℤ) where
     abbrev child : ℕ
     child = getD (kids m c) 0 0
 
-    list-parts : (i : ℕ) → total (worth f below n child) (spanSlots (at m c) i) ≡ nansIn id (tree f below rest) list (parts m pick (tree f below rest) list n c i)
+    list-parts : (i : ℕ) → sum (worth f below n child) (spanSlots (at m c) i) ≡ nansIn id (tree f below rest) list (parts m pick (tree f below rest) list n c i)
     list-parts i =
         sym (each-joined (λ x ps. cond (sameInteger id (f .id) && nanLiteral x) 1 0 + nansIn id below (f .shape) ps) (λ j. literalAt (f .shape) (at m child) j)
         (λ j. cond (null (at m child) j) none (parts m pick below (f .shape) (n + 1) child j)) (spanSlots (at m c) i))
@@ -219,7 +219,7 @@ module _ (m : Model) (pick : Pick) (id : ℤ) where
     -- the pairs of one slot
     map-parts : (i : ℕ)
         → nansIn id (tree f below (tree g under′ rest)) map (parts m pick (tree f below (tree g under′ rest)) map n c i)
-        ≡ total (λ (kv : ℕ × ℕ). worth f below n keyed (kv .0) + worth g under′ later valued (kv .1)) (kept alike (spanSlots (at m c) i))
+        ≡ sum (λ (kv : ℕ × ℕ). worth f below n keyed (kv .0) + worth g under′ later valued (kv .1)) (kept alike (spanSlots (at m c) i))
     map-parts i =
         pairs-joined (λ x ps. cond (sameInteger id (f .id) && nanLiteral x) 1 0 + nansIn id below (f .shape) ps) (λ x ps. cond (sameInteger id (g .id) && nanLiteral x) 1 0 + nansIn id under′ (g .shape) ps)
         (λ (kv : ℕ × ℕ). literalAt (f .shape) (at m keyed) (kv .0)) (λ (kv : ℕ × ℕ). literalAt (g .shape) (at m valued) (kv .1)) (λ kv. none)

@@ -7,9 +7,8 @@ use Prim.Native.Nat.{ℕ, zero, suc, _+_, _-_, _≤_}
 use native.Mathlib.Nat.{add-zero}
 use native.Mathlib.Omega.{arith}
 use Rattle.std.proofs.shelf.Tests.{cases-bool}
-use Rattle.meaning.specs.Lists.{upto, from, anyOf}
+use Rattle.meaning.specs.Lists.{upto, from, anyOf, sum}
 use Rattle.meaning.specs.Rows.{lastSame, keptFrom, kept}
-use Rattle.meaning.proofs.Totals.{total}
 use Rattle.meaning.proofs.Keys.{Alike}
 
 each-each : (f g : ℕ → ℕ) (xs : List ℕ) → each f (each g xs) ≡ each (λ k. f (g k)) xs
@@ -25,7 +24,7 @@ any-push : (t : ℕ → Bool) (xs : List ℕ) (i : ℕ) → anyOf t (xs ++ (i �
 any-push t [] i = grind arith
 any-push t (x ∷ xs) i = ap (λ b. t x || b) (any-push t xs i) ∙ grind arith
 
-total-unless : (f : ℕ × ℕ → ℕ) (b : Bool) (x : ℕ × ℕ) (xs : List (ℕ × ℕ)) → total f (cond b xs (x ∷ xs)) ≡ cond (not b) (f x) 0 + total f xs
+total-unless : (f : ℕ × ℕ → ℕ) (b : Bool) (x : ℕ × ℕ) (xs : List (ℕ × ℕ)) → sum f (cond b xs (x ∷ xs)) ≡ cond (not b) (f x) 0 + sum f xs
 total-unless f true x xs = omega arith
 total-unless f false x xs = refl
 
@@ -63,7 +62,7 @@ module _ (same : ℕ → ℕ → Bool) (a : Alike same) (g : ℕ → ℕ) where
       one = ⊎-elim (λ t. t ∙ sym (a .join j i x (a .flip i j e) t)) (λ f. ⊎-elim (λ t. a .join i j x e t ∙ sym t) (λ k. f ∙ sym k) (cases-bool (same j x))) (cases-bool (same i x))
 
   -- the keys of the pairs kept are the first of their class
-  keys-kept : (seen is : List ℕ) → total (λ (kv : ℕ × ℕ). g (kv .0)) (keptFrom same seen is) ≡ firsts same g seen is
+  keys-kept : (seen is : List ℕ) → sum (λ (kv : ℕ × ℕ). g (kv .0)) (keptFrom same seen is) ≡ firsts same g seen is
   keys-kept seen [] = refl
   keys-kept seen (i ∷ is) =
       total-unless (λ kv. g (kv .0)) (anyOf (same i) seen) (i, lastSame (same i) i is) (keptFrom same (seen ++ (i ∷ [])) is)
@@ -109,7 +108,7 @@ module _ (same : ℕ → ℕ → Bool) (a : Alike same) (g : ℕ → ℕ) where
   vals-step i seen is true e = rw and-false (omega (arith, lasts-ext (λ j. not (anyOf (same j) (seen ++ (i ∷ [])))) (λ j. not (anyOf (same j) seen)) (λ j. seen-more i j seen e) is))
   vals-step i seen is false e = rw and-true (omega (arith, last-one i i is, lasts-add (same i) (λ j. not (anyOf (same j) (seen ++ (i ∷ [])))) (λ j. not (anyOf (same j) seen)) (λ j. seen-parts i j seen e) is))
 
-  vals-kept : (seen is : List ℕ) → total (λ (kv : ℕ × ℕ). g (kv .1)) (keptFrom same seen is) ≡ lasts same g (λ j. not (anyOf (same j) seen)) is
+  vals-kept : (seen is : List ℕ) → sum (λ (kv : ℕ × ℕ). g (kv .1)) (keptFrom same seen is) ≡ lasts same g (λ j. not (anyOf (same j) seen)) is
   vals-kept seen [] = refl
   vals-kept seen (i ∷ is) =
       total-unless (λ kv. g (kv .1)) (anyOf (same i) seen) (i, lastSame (same i) i is) (keptFrom same (seen ++ (i ∷ [])) is)
@@ -131,30 +130,30 @@ line-push a (suc n) b e = ap (λ (xs : List ℕ). a ∷ xs) (line-push (suc a) n
 
 module _ (same : ℕ → ℕ → Bool) (g : ℕ → ℕ) where
   -- a first slot has no earlier equal key in its span
-  firsts-line : (a k n b : ℕ) → a + k ≡ b → firsts same g (line a k) (line b n) ≡ total (λ j. cond (not (anyOf (same j) (from a (j - a)))) (g j) 0) (line b n)
+  firsts-line : (a k n b : ℕ) → a + k ≡ b → firsts same g (line a k) (line b n) ≡ sum (λ j. cond (not (anyOf (same j) (from a (j - a)))) (g j) 0) (line b n)
   firsts-line a k zero b e = refl
   firsts-line a k (suc n) b e =
       ap₂ _+_ (ap (λ (xs : List ℕ). cond (not (anyOf (same b) xs)) (g b) 0) (sym (from-line a k) ∙ ap (from a) (omega arith)))
       (ap (λ (xs : List ℕ). firsts same g xs (line (suc b) n)) (sym (line-push a k b e)) ∙ firsts-line a (suc k) n (suc b) (omega arith))
 
   -- a last slot has no later equal key in its span
-  lasts-line : (a n b : ℕ) → a + n ≡ b → lasts same g (λ j. true) (line a n) ≡ total (λ j. cond (not (anyOf (same j) (from (j + 1) (b - (j + 1))))) (g j) 0) (line a n)
+  lasts-line : (a n b : ℕ) → a + n ≡ b → lasts same g (λ j. true) (line a n) ≡ sum (λ j. cond (not (anyOf (same j) (from (j + 1) (b - (j + 1))))) (g j) 0) (line a n)
   lasts-line a zero b e = refl
   lasts-line a (suc n) b e =
       ap₂ _+_ (rw and-true (ap (λ (xs : List ℕ). cond (not (anyOf (same a) xs)) (g a) 0) (sym (from-line (suc a) n) ∙ ap₂ from (omega arith) (omega arith))))
       (lasts-line (suc a) n b (omega arith))
 
 module _ (same : ℕ → ℕ → Bool) (alike : Alike same) (g h : ℕ → ℕ) where
-  total-pairs : (kvs : List (ℕ × ℕ)) → total (λ (kv : ℕ × ℕ). g (kv .0) + h (kv .1)) kvs ≡ total (λ (kv : ℕ × ℕ). g (kv .0)) kvs + total (λ (kv : ℕ × ℕ). h (kv .1)) kvs
+  total-pairs : (kvs : List (ℕ × ℕ)) → sum (λ (kv : ℕ × ℕ). g (kv .0) + h (kv .1)) kvs ≡ sum (λ (kv : ℕ × ℕ). g (kv .0)) kvs + sum (λ (kv : ℕ × ℕ). h (kv .1)) kvs
   total-pairs [] = refl
   total-pairs (kv ∷ kvs) = omega (arith, total-pairs kvs)
 
   -- the sum over the pairs kept of a span: its first key slots and its last value slots
   pub sum-kept : (a b : ℕ) → a ≤ b
-      → total (λ (kv : ℕ × ℕ). g (kv .0) + h (kv .1)) (kept same (from a (b - a)))
-      ≡ total (λ j. cond (not (anyOf (same j) (from a (j - a)))) (g j) 0) (from a (b - a)) + total (λ j. cond (not (anyOf (same j) (from (j + 1) (b - (j + 1))))) (h j) 0) (from a (b - a))
+      → sum (λ (kv : ℕ × ℕ). g (kv .0) + h (kv .1)) (kept same (from a (b - a)))
+      ≡ sum (λ j. cond (not (anyOf (same j) (from a (j - a)))) (g j) 0) (from a (b - a)) + sum (λ j. cond (not (anyOf (same j) (from (j + 1) (b - (j + 1))))) (h j) 0) (from a (b - a))
   sum-kept a b le =
-      subst (λ (xs : List ℕ). total (λ (kv : ℕ × ℕ). g (kv .0) + h (kv .1)) (kept same xs) ≡ total (λ j. cond (not (anyOf (same j) (from a (j - a)))) (g j) 0) xs + total (λ j. cond (not (anyOf (same j) (from (j + 1) (b - (j + 1))))) (h j) 0) xs)
+      subst (λ (xs : List ℕ). sum (λ (kv : ℕ × ℕ). g (kv .0) + h (kv .1)) (kept same xs) ≡ sum (λ j. cond (not (anyOf (same j) (from a (j - a)))) (g j) 0) xs + sum (λ j. cond (not (anyOf (same j) (from (j + 1) (b - (j + 1))))) (h j) 0) xs)
       (sym (from-line a (b - a)))
       (total-pairs (kept same (line a (b - a)))
       ∙ ap₂ _+_ (keys-kept same alike g [] (line a (b - a)) ∙ firsts-line same g a 0 (b - a) a (omega arith))

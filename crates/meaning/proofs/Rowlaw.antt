@@ -14,7 +14,7 @@ use Rattle.std.specs.declared.result.Result.the-variants.{Ok}
 use Rattle.std.proofs.shelf.Tests.{lt-ltb}
 use Rattle.meaning.specs.Forest.{size}
 use Rattle.meaning.specs.Model.{Model, struct}
-use Rattle.meaning.specs.Lists.{upto, orZero}
+use Rattle.meaning.specs.Lists.{upto, orZero, sum}
 use Rattle.meaning.specs.Access.{StepFault}
 use Rattle.meaning.specs.Rows.{parts, row, rows, joined}
 use Rattle.meaning.specs.Converts.{converts, checkFields}
@@ -22,7 +22,7 @@ use Rattle.meaning.specs.Equal.{sameInteger}
 use Rattle.meaning.specs.Reaches.{Reach, reached, nansIn, hiddenNans}
 use Rattle.meaning.specs.CounterLaw.{Call, computes, rowNans, Rows-law, countOf, addReaches, hiddenNansOf}
 use Rattle.meaning.proofs.Filing.{keeps-enough}
-use Rattle.meaning.proofs.Totals.{total, total-upto, sum-ext}
+use Rattle.meaning.proofs.Totals.{total-upto, sum-ext}
 use Rattle.meaning.proofs.Accepted.{chain-ok}
 use Rattle.meaning.proofs.Found.{Good}
 use Rattle.meaning.proofs.Conserved.{inParts, conserves}
@@ -45,7 +45,7 @@ module _ (c : Call) (id : ℤ) where
   or-zero None = refl
   or-zero (Some n) = refl
 
-  rows-joined : (xs : List ℕ) → rowNans id c (joined (row m (c .pick)) xs) ≡ total (λ i. nansIn id (m .fields) struct (parts m (c .pick) (m .fields) struct 1 0 i)) xs
+  rows-joined : (xs : List ℕ) → rowNans id c (joined (row m (c .pick)) xs) ≡ sum (λ i. nansIn id (m .fields) struct (parts m (c .pick) (m .fields) struct 1 0 i)) xs
   rows-joined [] = refl
   rows-joined (x ∷ xs) = ap (λ k. nansIn id (m .fields) struct (parts m (c .pick) (m .fields) struct 1 0 x) + k) (rows-joined xs)
 

@@ -9,23 +9,19 @@ use native.Mathlib.Omega.{arith}
 use lib.Dec.{leb, ltb}
 use Rattle.std.proofs.shelf.Ways.{tells}
 use Rattle.std.proofs.shelf.Tests.{cases-bool, cond-false, cases-order}
-use Rattle.meaning.specs.Lists.{upto, from, anyOf, tally}
+use Rattle.meaning.specs.Lists.{upto, from, anyOf, tally, sum}
 
 -- the sum of f over the numbers below n, and over a list
 abbrev pub sumTo : ℕ → (ℕ → ℕ) → ℕ
 sumTo zero f = 0
 sumTo (suc n) f = f 0 + sumTo n (λ i. f (suc i))
 
-abbrev pub total : {X : Type 0} → (X → ℕ) → List X → ℕ
-total f [] = 0
-total f (x ∷ xs) = f x + total f xs
-
 abbrev pub anyTo : ℕ → (ℕ → Bool) → Bool
 anyTo zero f = false
 anyTo (suc n) f = f 0 || anyTo n (λ i. f (suc i))
 
 -- a list's sum, test and tally are those over the numbers
-total-each : {X : Type 0} (f : X → ℕ) (g : ℕ → X) (xs : List ℕ) → total f (each g xs) ≡ total (λ i. f (g i)) xs
+total-each : {X : Type 0} (f : X → ℕ) (g : ℕ → X) (xs : List ℕ) → sum f (each g xs) ≡ sum (λ i. f (g i)) xs
 total-each f g [] = refl
 total-each f g (x ∷ xs) = ap (λ k. f (g x) + k) (total-each f g xs)
 
@@ -33,7 +29,7 @@ any-each : (f : ℕ → Bool) (g : ℕ → ℕ) (xs : List ℕ) → anyOf f (eac
 any-each f g [] = refl
 any-each f g (x ∷ xs) = ap (λ k. f (g x) || k) (any-each f g xs)
 
-pub total-upto : (f : ℕ → ℕ) (n : ℕ) → total f (upto n) ≡ sumTo n f
+pub total-upto : (f : ℕ → ℕ) (n : ℕ) → sum f (upto n) ≡ sumTo n f
 total-upto f zero = refl
 total-upto f (suc n) = ap (λ k. f 0 + k) (total-each f suc (upto n) ∙ total-upto (λ i. f (suc i)) n)
 
@@ -41,14 +37,10 @@ pub any-upto : (f : ℕ → Bool) (n : ℕ) → anyOf f (upto n) ≡ anyTo n f
 any-upto f zero = refl
 any-upto f (suc n) = ap (λ k. f 0 || k) (any-each f suc (upto n) ∙ any-upto (λ i. f (suc i)) n)
 
-tally-total : (f : ℕ → Bool) (xs : List ℕ) → tally f xs ≡ total (λ i. cond (f i) 1 0) xs
-tally-total f [] = refl
-tally-total f (x ∷ xs) = ap (λ k. cond (f x) 1 0 + k) (tally-total f xs)
-
 pub tally-upto : (f : ℕ → Bool) (n : ℕ) → tally f (upto n) ≡ sumTo n (λ i. cond (f i) 1 0)
-tally-upto f n = tally-total f (upto n) ∙ total-upto (λ i. cond (f i) 1 0) n
+tally-upto f n = total-upto (λ i. cond (f i) 1 0) n
 
-pub total-from : (f : ℕ → ℕ) (a n : ℕ) → total f (from a n) ≡ sumTo n (λ k. f (a + k))
+pub total-from : (f : ℕ → ℕ) (a n : ℕ) → sum f (from a n) ≡ sumTo n (λ k. f (a + k))
 total-from f a n = total-each f (λ k. a + k) (upto n) ∙ total-upto (λ k. f (a + k)) n
 
 -- sums of equal terms, of zeros, of sums, and in the other order
@@ -95,7 +87,7 @@ range-out a b j x h = grind (arith, tells)
 range-in : (a b j x : ℕ) → a ≤ j → j < b → cond (leb a j && ltb j b) x 0 ≡ x
 range-in a b j x h k = grind (arith, tells)
 
-pub sum-range : (a b l : ℕ) (f : ℕ → ℕ) → a ≤ b → b ≤ l → sumTo l (λ j. cond (leb a j && ltb j b) (f j) 0) ≡ total f (from a (b - a))
+pub sum-range : (a b l : ℕ) (f : ℕ → ℕ) → a ≤ b → b ≤ l → sumTo l (λ j. cond (leb a j && ltb j b) (f j) 0) ≡ sum f (from a (b - a))
 sum-range a b l f h k = rw (← len) (sum-split a (n + r) g ∙ omega (arith, low, sum-split n r (λ i. g (a + i)), mid, high, total-from f a n))
   where
     n : ℕ
@@ -153,7 +145,7 @@ module _ (n l : ℕ) (lo hi : ℕ → ℕ) (c : Cuts n l lo hi) (p : ℕ → Boo
       v = hit-range (p k) (lo k) (hi k) (fits (lo k) (hi k) j) j b
 
   -- the sum over the child's slots that are cut is the sum over the slots that cut, each over what it cuts
-  pub sum-cuts : sumTo l (λ j. cond (anyTo n (λ i. hits i j)) (f j) 0) ≡ sumTo n (λ i. cond (p i) (total (λ j. cond (fits (lo i) (hi i) j) (f j) 0) (from (lo i) (hi i - lo i))) 0)
+  pub sum-cuts : sumTo l (λ j. cond (anyTo n (λ i. hits i j)) (f j) 0) ≡ sumTo n (λ i. cond (p i) (sum (λ j. cond (fits (lo i) (hi i) j) (f j) 0) (from (lo i) (hi i - lo i))) 0)
   sum-cuts = sum-ext l _ _ (λ j h. sum-once (f j) n (λ i. hits i j) (hit-one j)) ∙ (sum-swap l n (λ j i. cond (hits i j) (f j) 0) ∙ sum-ext n _ _ (λ i h.
       sum-ext l _ _ (λ j _. hit-parts (p i) (lo i) (hi i) (fits (lo i) (hi i) j) j (f j))
       ∙ (sum-cond (p i) l (λ j. cond (leb (lo i) j && ltb j (hi i)) (cond (fits (lo i) (hi i) j) (f j) 0) 0)

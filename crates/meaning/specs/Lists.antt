@@ -20,20 +20,19 @@ abbrev pub among : ℕ → List ℕ → Bool
 among k [] = false
 among k (n ∷ ns) = eqb k n || among k ns
 
--- whether one of them passes the test
-abbrev pub anyOf : (ℕ → Bool) → List ℕ → Bool
+-- whether an element passes the test
+abbrev pub anyOf : {X : Type 0} → (X → Bool) → List X → Bool
 anyOf f [] = false
-anyOf f (j ∷ js) = f j || anyOf f js
+anyOf f (x ∷ xs) = f x || anyOf f xs
 
--- the sum of a number for each
-abbrev pub sum : (ℕ → ℕ) → List ℕ → ℕ
+-- the sum of a number for each element
+abbrev pub sum : {X : Type 0} → (X → ℕ) → List X → ℕ
 sum f [] = 0
-sum f (j ∷ js) = f j + sum f js
+sum f (x ∷ xs) = f x + sum f xs
 
--- how many of them pass the test
-abbrev pub tally : (ℕ → Bool) → List ℕ → ℕ
-tally f [] = 0
-tally f (j ∷ js) = cond (f j) 1 0 + tally f js
+-- how many elements pass the test
+abbrev pub tally : {X : Type 0} → (X → Bool) → List X → ℕ
+tally f xs = sum (λ x. cond (f x) 1 0) xs
 
 -- a number that may be absent, absent being 0
 abbrev pub orZero : Option ℕ → ℕ
