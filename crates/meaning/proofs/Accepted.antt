@@ -1,7 +1,7 @@
 -- What an accepted conversion tells of each step.
 use mathlib.Core.Path.{_≡_, refl, sym, ap, _∙_, subst}
 use mathlib.Core.List.{List}
-use mathlib.Core.Bool.{Bool, true, false, cond, not, _&&_, _||_}
+use mathlib.Core.Bool.{Bool, true, false, cond, not, _&&_, _||_, or-true}
 use mathlib.Core.Logic.{⊎-elim}
 use Prim.Native.Nat.{ℕ, _+_}
 use native.Mathlib.Omega.{arith}
@@ -11,139 +11,56 @@ use Rattle.std.specs.declared.option.Option.{Option}
 use Rattle.std.specs.declared.option.Option.the-variants.{Some, None}
 use Rattle.std.specs.declared.result.Result.{Result}
 use Rattle.std.specs.declared.result.Result.the-variants.{Ok, Err}
-use Rattle.std.proofs.shelf.Tests.{and-parts, eqb-true, not-false}
+use Rattle.std.proofs.shelf.Tests.{and-parts, eqb-true, ne-eqb, not-false}
 use Rattle.meaning.specs.Forest.{Forest, none, tree, size}
-use Rattle.meaning.specs.Model.{Model, Column, Field, Shape, prim, struct, list, map, Primitive, boolean, int, long, float, double, date, time, timestamp, timestamptz, timestampNs, timestamptzNs, string, uuid, fixed, binary, Code, bits, words, variable, fixedSizeBinary, structs, lists, largeLists, fixedSizeLists, maps, int32, int64, float32, float64, date32, time64, micros, nanos, utf8, largeUtf8, binaries, largeBinary, at}
+use Rattle.meaning.specs.Model.{Model, Column, Field, Shape, prim, struct, list, map, Primitive, boolean, int, long, float, double, date, time, timestamp, timestamptz, timestampNs, timestamptzNs, string, uuid, fixed, binary, Code, at}
 use Rattle.meaning.specs.Slots.{null, nan, nanBy}
-use Rattle.meaning.specs.Access.{Pick, StepFault, fault, kids, partner, struct?, list?, map?, isStruct, isList, isMap, orRefused}
+use Rattle.meaning.specs.Codes.{codeNumber, codeDetail, isStruct, isList, isMap, struct?, list?, map?}
+use Rattle.meaning.specs.Access.{Pick, StepFault, fault, kids, partner, orRefused}
 use Rattle.meaning.specs.Lists.{orZero}
-use Rattle.meaning.specs.Rows.{nullLiteral, literalBy, literalAt}
-use Rattle.meaning.specs.Converts.{codeOf, is, accepts, takes, fieldHook, chain, ownHook, checkFields}
-use Rattle.meaning.specs.Reaches.{nanLiteral}
+use Rattle.meaning.specs.Literals.{nullLiteral, literalBy, literalAt}
+use Rattle.meaning.specs.Converts.{hasNumber, detailIs, hasWidth, accepts, takes, fieldHook, ownHook, checkFields, andThen}
+use Rattle.meaning.specs.Nans.{nanLiteral}
+use Rattle.meaning.proofs.Codes.{is-float, is-double, no-nan, nested-no-nan}
 use Rattle.meaning.proofs.Enough.{Holds}
 
--- a code by its number holds no NaN, or holds those of its width
-no-nan : (k : Code) (body : List ℕ) (i : ℕ) → (codeOf k .0 ≡ 4 → ⊥) → (codeOf k .0 ≡ 5 → ⊥) → nanBy k body i ≡ false
-no-nan bits body i a b = refl
-no-nan (words int32) body i a b = refl
-no-nan (words int64) body i a b = refl
-no-nan (words float32) body i a b = absurd (a refl)
-no-nan (words float64) body i a b = absurd (b refl)
-no-nan (words date32) body i a b = refl
-no-nan (words time64) body i a b = refl
-no-nan (words micros) body i a b = refl
-no-nan (words nanos) body i a b = refl
-no-nan (variable t) body i a b = refl
-no-nan (fixedSizeBinary w) body i a b = refl
-no-nan structs body i a b = refl
-no-nan lists body i a b = refl
-no-nan largeLists body i a b = refl
-no-nan (fixedSizeLists s) body i a b = refl
-no-nan maps body i a b = refl
+-- a code by its number: no other than 4 and 5 holds a NaN
+no-nan-is : (k : Code) (n : ℕ) (body : List ℕ) (i : ℕ) → (n ≡ 4 → ⊥) → (n ≡ 5 → ⊥) → hasNumber k n ≡ true → nanBy k body i ≡ false
+no-nan-is k n body i a b e = no-nan k body i (let h = eqb-true (codeNumber k) n e in rw (h, ne-eqb n 4 a, ne-eqb n 5 b))
 
--- the code that a float's or a double's number stands for
-is-float : (k : Code) → codeOf k .0 ≡ 4 → k ≡ words float32
-is-float bits e = absurd (omega arith)
-is-float (words int32) e = absurd (omega arith)
-is-float (words int64) e = absurd (omega arith)
-is-float (words float32) e = refl
-is-float (words float64) e = absurd (omega arith)
-is-float (words date32) e = absurd (omega arith)
-is-float (words time64) e = absurd (omega arith)
-is-float (words micros) e = absurd (omega arith)
-is-float (words nanos) e = absurd (omega arith)
-is-float (variable utf8) e = absurd (omega arith)
-is-float (variable largeUtf8) e = absurd (omega arith)
-is-float (variable binaries) e = absurd (omega arith)
-is-float (variable largeBinary) e = absurd (omega arith)
-is-float (fixedSizeBinary w) e = absurd (omega arith)
-is-float structs e = absurd (omega arith)
-is-float lists e = absurd (omega arith)
-is-float largeLists e = absurd (omega arith)
-is-float (fixedSizeLists s) e = absurd (omega arith)
-is-float maps e = absurd (omega arith)
+either-is : (k : Code) (n l : ℕ) (body : List ℕ) (i : ℕ) → (n ≡ 4 → ⊥) → (n ≡ 5 → ⊥) → (l ≡ 4 → ⊥) → (l ≡ 5 → ⊥) → (hasNumber k n || hasNumber k l) ≡ true → nanBy k body i ≡ false
+either-is k n l body i a b c d e = ⊎-elim (no-nan-is k n body i a b) (no-nan-is k l body i c d) (grind arith)
 
-is-double : (k : Code) → codeOf k .0 ≡ 5 → k ≡ words float64
-is-double bits e = absurd (omega arith)
-is-double (words int32) e = absurd (omega arith)
-is-double (words int64) e = absurd (omega arith)
-is-double (words float32) e = absurd (omega arith)
-is-double (words float64) e = refl
-is-double (words date32) e = absurd (omega arith)
-is-double (words time64) e = absurd (omega arith)
-is-double (words micros) e = absurd (omega arith)
-is-double (words nanos) e = absurd (omega arith)
-is-double (variable utf8) e = absurd (omega arith)
-is-double (variable largeUtf8) e = absurd (omega arith)
-is-double (variable binaries) e = absurd (omega arith)
-is-double (variable largeBinary) e = absurd (omega arith)
-is-double (fixedSizeBinary w) e = absurd (omega arith)
-is-double structs e = absurd (omega arith)
-is-double lists e = absurd (omega arith)
-is-double largeLists e = absurd (omega arith)
-is-double (fixedSizeLists s) e = absurd (omega arith)
-is-double maps e = absurd (omega arith)
-
-is-code : (k : Code) (n w : ℕ) → is k n w ≡ true → codeOf k .0 ≡ n
-is-code k n w e = eqb-true (codeOf k .0) n (and-parts (eqb (codeOf k .0) n) (eqb (codeOf k .1) w) e .0)
-
-no-nan-is : (k : Code) (n w : ℕ) (body : List ℕ) (i : ℕ) → (n ≡ 4 → ⊥) → (n ≡ 5 → ⊥) → is k n w ≡ true → nanBy k body i ≡ false
-no-nan-is k n w body i a b e = no-nan k body i (λ h. a (sym (is-code k n w e) ∙ h)) (λ h. b (sym (is-code k n w e) ∙ h))
-
-or-is : (k : Code) (n l : ℕ) (body : List ℕ) (i : ℕ) → (n ≡ 4 → ⊥) → (n ≡ 5 → ⊥) → (l ≡ 4 → ⊥) → (l ≡ 5 → ⊥) → (is k n 0 || is k l 0) ≡ true → nanBy k body i ≡ false
-or-is k n l body i a b c d e = ⊎-elim (no-nan-is k n 0 body i a b) (no-nan-is k l 0 body i c d) (grind arith)
+width-is : (k : Code) (w : ℕ) (body : List ℕ) (i : ℕ) → hasWidth k w ≡ true → nanBy k body i ≡ false
+width-is k w body i e = no-nan-is k 13 body i (λ h. omega arith) (λ h. omega arith) (and-parts (hasNumber k 13) (detailIs (codeDetail k) w) e .0)
 
 -- a primitive's slots hold what the column says
 prim-nan : (p : Primitive) (x : Column) (i : ℕ) → accepts p (x .code) ≡ true → nanBy (x .code) (x .body) i ≡ nanLiteral (literalBy (prim p) x i)
-prim-nan boolean x i e = no-nan-is (x .code) 1 0 (x .body) i (λ h. omega arith) (λ h. omega arith) e
-prim-nan int x i e = no-nan-is (x .code) 2 0 (x .body) i (λ h. omega arith) (λ h. omega arith) e
-prim-nan long x i e = no-nan-is (x .code) 3 0 (x .body) i (λ h. omega arith) (λ h. omega arith) e
-prim-nan float x i e = ap (λ k. nanBy k (x .body) i) (is-float (x .code) (is-code (x .code) 4 0 e))
-prim-nan double x i e = ap (λ k. nanBy k (x .body) i) (is-double (x .code) (is-code (x .code) 5 0 e))
-prim-nan date x i e = no-nan-is (x .code) 7 0 (x .body) i (λ h. omega arith) (λ h. omega arith) e
-prim-nan time x i e = no-nan-is (x .code) 8 0 (x .body) i (λ h. omega arith) (λ h. omega arith) e
-prim-nan timestamp x i e = no-nan-is (x .code) 9 0 (x .body) i (λ h. omega arith) (λ h. omega arith) e
-prim-nan timestamptz x i e = no-nan-is (x .code) 9 0 (x .body) i (λ h. omega arith) (λ h. omega arith) e
-prim-nan timestampNs x i e = no-nan-is (x .code) 10 0 (x .body) i (λ h. omega arith) (λ h. omega arith) e
-prim-nan timestamptzNs x i e = no-nan-is (x .code) 10 0 (x .body) i (λ h. omega arith) (λ h. omega arith) e
-prim-nan string x i e = or-is (x .code) 11 12 (x .body) i (λ h. omega arith) (λ h. omega arith) (λ h. omega arith) (λ h. omega arith) e
-prim-nan uuid x i e = no-nan-is (x .code) 13 16 (x .body) i (λ h. omega arith) (λ h. omega arith) e
-prim-nan (fixed n) x i e = no-nan-is (x .code) 13 n (x .body) i (λ h. omega arith) (λ h. omega arith) e
-prim-nan binary x i e = or-is (x .code) 14 15 (x .body) i (λ h. omega arith) (λ h. omega arith) (λ h. omega arith) (λ h. omega arith) e
+prim-nan boolean x i e = no-nan-is (x .code) 1 (x .body) i (λ h. omega arith) (λ h. omega arith) e
+prim-nan int x i e = no-nan-is (x .code) 2 (x .body) i (λ h. omega arith) (λ h. omega arith) e
+prim-nan long x i e = no-nan-is (x .code) 3 (x .body) i (λ h. omega arith) (λ h. omega arith) e
+prim-nan float x i e = ap (λ k. nanBy k (x .body) i) (is-float (x .code) (eqb-true (codeNumber (x .code)) 4 e))
+prim-nan double x i e = ap (λ k. nanBy k (x .body) i) (is-double (x .code) (eqb-true (codeNumber (x .code)) 5 e))
+prim-nan date x i e = no-nan-is (x .code) 7 (x .body) i (λ h. omega arith) (λ h. omega arith) e
+prim-nan time x i e = no-nan-is (x .code) 8 (x .body) i (λ h. omega arith) (λ h. omega arith) e
+prim-nan timestamp x i e = no-nan-is (x .code) 9 (x .body) i (λ h. omega arith) (λ h. omega arith) e
+prim-nan timestamptz x i e = no-nan-is (x .code) 9 (x .body) i (λ h. omega arith) (λ h. omega arith) e
+prim-nan timestampNs x i e = no-nan-is (x .code) 10 (x .body) i (λ h. omega arith) (λ h. omega arith) e
+prim-nan timestamptzNs x i e = no-nan-is (x .code) 10 (x .body) i (λ h. omega arith) (λ h. omega arith) e
+prim-nan string x i e = either-is (x .code) 11 12 (x .body) i (λ h. omega arith) (λ h. omega arith) (λ h. omega arith) (λ h. omega arith) e
+prim-nan uuid x i e = width-is (x .code) 16 (x .body) i e
+prim-nan (fixed n) x i e = width-is (x .code) n (x .body) i e
+prim-nan binary x i e = either-is (x .code) 14 15 (x .body) i (λ h. omega arith) (λ h. omega arith) (λ h. omega arith) (λ h. omega arith) e
 
 -- a struct, list or map column holds none
 struct-nan : (k : Code) (body : List ℕ) (i : ℕ) → isStruct k ≡ true → nanBy k body i ≡ false
-struct-nan bits body i e = refl
-struct-nan (words w) body i e = cc
-struct-nan (variable t) body i e = refl
-struct-nan (fixedSizeBinary w) body i e = refl
-struct-nan structs body i e = refl
-struct-nan lists body i e = refl
-struct-nan largeLists body i e = refl
-struct-nan (fixedSizeLists s) body i e = refl
-struct-nan maps body i e = refl
+struct-nan k body i e = nested-no-nan k body i (rw e)
 
 list-nan : (k : Code) (body : List ℕ) (i : ℕ) → isList k ≡ true → nanBy k body i ≡ false
-list-nan bits body i e = refl
-list-nan (words w) body i e = cc
-list-nan (variable t) body i e = refl
-list-nan (fixedSizeBinary w) body i e = refl
-list-nan structs body i e = refl
-list-nan lists body i e = refl
-list-nan largeLists body i e = refl
-list-nan (fixedSizeLists s) body i e = refl
-list-nan maps body i e = refl
+list-nan k body i e = nested-no-nan k body i (rw e (or-true (isStruct k)))
 
 map-nan : (k : Code) (body : List ℕ) (i : ℕ) → isMap k ≡ true → nanBy k body i ≡ false
-map-nan bits body i e = refl
-map-nan (words w) body i e = cc
-map-nan (variable t) body i e = refl
-map-nan (fixedSizeBinary w) body i e = refl
-map-nan structs body i e = refl
-map-nan lists body i e = refl
-map-nan largeLists body i e = refl
-map-nan (fixedSizeLists s) body i e = refl
-map-nan maps body i e = refl
+map-nan k body i e = nested-no-nan k body i (rw (e, or-true (isList k)) (or-true (isStruct k)))
 
 -- a null slot holds none
 null-nan : (u v : Bool) (s : Shape) (x : Column) (i : ℕ) → v ≡ nanLiteral (literalBy s x i) → (not u && v) ≡ nanLiteral (cond u nullLiteral (literalBy s x i))
@@ -193,7 +110,7 @@ module _ (m : Model) (pick : Pick) (cells : ℕ) where
       let h : (map? m c ≡ true) × (Ok (target map up c n) ≡ Ok p) = ok-test (map? m c) (Ok (target map up c n)) (fault 13 c up) p e in
       (h .0, sym (ok-is (target map up c n) p (h .1)))
 
-  pub chain-ok : (r : Result ℕ StepFault) (k : ℕ → Result ℕ StepFault) (t : ℕ) → chain m pick cells r k ≡ Ok t → (x : ℕ) × (r ≡ Ok x) × (k x ≡ Ok t)
+  pub chain-ok : (r : Result ℕ StepFault) (k : ℕ → Result ℕ StepFault) (t : ℕ) → andThen r k ≡ Ok t → (x : ℕ) × (r ≡ Ok x) × (k x ≡ Ok t)
   chain-ok (Ok x) k t e = (x, refl, e)
   chain-ok (Err f) k t e = (0, cc, cc)
 
@@ -202,7 +119,7 @@ module _ (m : Model) (pick : Pick) (cells : ℕ) where
     pub t₁ : ℕ
     pub inner : checkFields m pick cells below (f .shape) n (n + 1) p taken ≡ Ok t₁
     pub t₂ : ℕ
-    pub mine : ownHook m pick cells (f .shape) below n p t₁ ≡ Ok t₂
+    pub mine : ownHook m cells (f .shape) below n p t₁ ≡ Ok t₂
     pub t₃ : ℕ
     pub after : checkFields m pick cells rest s up (n + 1 + size below) c t₃ ≡ Ok t
 
@@ -211,15 +128,15 @@ module _ (m : Model) (pick : Pick) (cells : ℕ) where
   step f below rest s up n c taken t e =
       let a = chain-ok (partner m pick s up c n) _ t e in
       let b = chain-ok (checkFields m pick cells below (f .shape) n (n + 1) (a .0) taken) _ t (a .2) in
-      let d = chain-ok (ownHook m pick cells (f .shape) below n (a .0) (b .0)) _ t (b .2) in
-      let g = chain-ok (fieldHook m pick cells s f n c (a .0) (d .0)) _ t (d .2) in
+      let d = chain-ok (ownHook m cells (f .shape) below n (a .0) (b .0)) _ t (b .2) in
+      let g = chain-ok (fieldHook m s f n c (a .0) (d .0)) _ t (d .2) in
       let k = partner-kind s up c n (a .0) (a .1) in
       (k .0, subst (λ (p : ℕ). Step f below rest s up n c taken t p) (k .1) (record { met = a .1; t₁ = b .0; inner = b .1; t₂ = d .0; mine = d .1; t₃ = g .0; after = g .2 }))
 
   -- a NaN of the column is a NaN of the value
-  kind-nan : (s : Shape) (below : Forest Field) (n p taken t₁ t₂ : ℕ) → Holds s below → checkFields m pick cells below s n (n + 1) p taken ≡ Ok t₁ → ownHook m pick cells s below n p t₁ ≡ Ok t₂
+  kind-nan : (s : Shape) (below : Forest Field) (n p taken t₁ t₂ : ℕ) → Holds s below → checkFields m pick cells below s n (n + 1) p taken ≡ Ok t₁ → ownHook m cells s below n p t₁ ≡ Ok t₂
       → (i : ℕ) → nanBy (at m p .code) (at m p .body) i ≡ nanLiteral (literalBy s (at m p) i)
-  kind-nan (prim k) below n p taken t₁ t₂ h c o i = prim-nan k (at m p) i (ok-test (accepts k (at m p .code)) (takes m pick cells n p (at m p .len) t₁) (fault 14 p n) t₂ o .0)
+  kind-nan (prim k) below n p taken t₁ t₂ h c o i = prim-nan k (at m p) i (ok-test (accepts k (at m p .code)) (takes cells n p (at m p .len) t₁) (fault 14 p n) t₂ o .0)
   kind-nan struct none n p taken t₁ t₂ h c o i = struct-nan (at m p .code) (at m p .body) i (not-false (struct? m p) (ok-miss (not (struct? m p)) _ (fault 14 p n) t₂ o))
   kind-nan struct (tree f below rest) n p taken t₁ t₂ h c o i = struct-nan (at m p .code) (at m p .body) i (step f below rest struct n (n + 1) p taken t₁ c .0 .0)
   kind-nan list none n p taken t₁ t₂ h c o i = absurd h
@@ -227,6 +144,6 @@ module _ (m : Model) (pick : Pick) (cells : ℕ) where
   kind-nan map none n p taken t₁ t₂ h c o i = absurd h
   kind-nan map (tree f below rest) n p taken t₁ t₂ h c o i = map-nan (at m p .code) (at m p .body) i (step f below rest map n (n + 1) p taken t₁ c .0)
 
-  pub item-nan : (s : Shape) (below : Forest Field) (n p taken t₁ t₂ : ℕ) → Holds s below → checkFields m pick cells below s n (n + 1) p taken ≡ Ok t₁ → ownHook m pick cells s below n p t₁ ≡ Ok t₂
+  pub item-nan : (s : Shape) (below : Forest Field) (n p taken t₁ t₂ : ℕ) → Holds s below → checkFields m pick cells below s n (n + 1) p taken ≡ Ok t₁ → ownHook m cells s below n p t₁ ≡ Ok t₂
       → (i : ℕ) → nan (at m p) i ≡ nanLiteral (literalAt s (at m p) i)
   item-nan s below n p taken t₁ t₂ h c o i = null-nan (null (at m p) i) (nanBy (at m p .code) (at m p .body) i) s (at m p) i (kind-nan s below n p taken t₁ t₂ h c o i)

@@ -3,7 +3,7 @@ use mathlib.Core.Path.{_≡_, refl, sym, _∙_, ap}
 use mathlib.Core.List.{List, [], _∷_, _++_}
 use mathlib.Core.Logic.{inl, inr}
 use mathlib.Core.Bool.{Bool, true, false, cond, _||_}
-use Prim.Native.Nat.{ℕ, _+_, _≤_}
+use Prim.Native.Nat.{ℕ, _+_, _-_, _^_, _≤_}
 use native.Mathlib.Nat.{add-zero, zero-add, add-assoc}
 use native.Mathlib.Omega.{arith}
 use lib.IntN.{ℤ}
@@ -11,8 +11,10 @@ use lib.ListN.{length}
 use Rattle.std.specs.declared.option.Option.{Option}
 use Rattle.std.specs.declared.option.Option.the-variants.{Some, None}
 use Rattle.std.proofs.shelf.Tests.{cases-bool}
+use Rattle.meaning.specs.Lists.{orZero}
 use Rattle.meaning.specs.Equal.{sameInteger}
-use Rattle.meaning.specs.CounterLaw.{Table, added, sumOf, mentions, saturated, countOf, hasId, distinctIds}
+use Rattle.meaning.specs.Table.{Table, saturated, added, countOf, hasId}
+use Rattle.meaning.specs.CounterLaw.{sumOf, mentions, distinctIds}
 use Rattle.meaning.proofs.Ids.{same-self, same-eq}
 use Rattle.meaning.proofs.Tables.{Ascending, ascending-added, plus, counted-added, length-added, without, ascending-without, length-without, counted-without, has-counted, has-without, length-had}
 
@@ -67,6 +69,24 @@ counts-none q (x ∷ xs) =
 -- from the empty table, the count under an id is the sum of what was added under it
 pub sum-folded : (xs : List (ℤ × ℕ)) (q : ℤ) → countOf (folded [] xs) q ≡ cond (mentions q xs) (Some (saturated (sumOf q xs))) None
 sum-folded xs q = counted-folded [] xs q tt ∙ counts-none q xs
+
+-- an id that is not mentioned has the sum 0
+sum-unmentioned : (q : ℤ) (xs : List (ℤ × ℕ)) → mentions q xs ≡ false → sumOf q xs ≡ 0
+sum-unmentioned q [] h = refl
+sum-unmentioned q (x ∷ xs) h =
+    elim (cases-bool (sameInteger q (x .0))) [
+      | inl s ↦ let z : true ≡ false = rw s at h in cc
+      | inr s ↦ rw s (omega (arith, sum-unmentioned q xs (rw s at h)))
+    ]
+
+-- a sum that does not reach the ceiling, an absent count being 0
+pub count-folded : (xs : List (ℤ × ℕ)) (q : ℤ) → sumOf q xs ≤ 2 ^ 64 - 1 → orZero (countOf (folded [] xs) q) ≡ sumOf q xs
+count-folded xs q h = ap orZero (sum-folded xs q) ∙ elim (cases-bool (mentions q xs)) [ inl s ↦ rw s (omega arith) | inr s ↦ rw s (sym (sum-unmentioned q xs s)) ]
+
+-- there are no more ids than additions
+pub distinct-most : (xs : List (ℤ × ℕ)) → distinctIds xs ≤ length xs
+distinct-most [] = omega arith
+distinct-most (x ∷ xs) = elim (cases-bool (mentions (x .0) xs)) [ inl s ↦ rw s (omega (arith, distinct-most xs)) | inr s ↦ rw s (omega (arith, distinct-most xs)) ]
 
 -- a repeated id mentions nothing new
 repeated : (q : ℤ) (x : ℤ × ℕ) (xs : List (ℤ × ℕ)) → mentions (x .0) xs ≡ true → mentions q xs ≡ false → mentions q (x ∷ xs) ≡ false

@@ -11,7 +11,7 @@ use Rattle.std.specs.declared.result.Result.{Result}
 use Rattle.std.specs.declared.result.Result.the-variants.{Ok, Err}
 use Rattle.meaning.specs.Model.{Model}
 use Rattle.meaning.specs.Access.{Pick, StepFault, fault}
-use Rattle.meaning.specs.Converts.{takes, chain}
+use Rattle.meaning.specs.Converts.{takes, andThen}
 use Rattle.meaning.specs.Walk.{Step, ret, missing, bindResult}
 use Rattle.meaning.specs.Converter.{Value, sought, taking, refuseIf, orRefuse}
 
@@ -47,7 +47,7 @@ agrees-as x r v w e a = subst (λ u. Agrees x r u) e a
 
 module _ (m : Model) (pick : Pick) (cells : ℕ) where
   -- cells that fit or do not
-  pub agrees-taking : (n c more taken : ℕ) (v : List Value) → Agrees (taking m cells n c more v taken) (takes m pick cells n c more taken) v
+  pub agrees-taking : (n c more taken : ℕ) (v : List Value) → Agrees (taking m cells n c more v taken) (takes cells n c more taken) v
   agrees-taking n c more taken v = go (leb (taken + more) cells)
     where
       go : (b : Bool) → Agrees (cond b (Ok v, taken + more) (Err (fault 21 c n), taken)) (cond b (Ok (taken + more)) (Err (fault 21 c n))) v
@@ -60,11 +60,11 @@ module _ (m : Model) (pick : Pick) (cells : ℕ) where
   refused-then (Err f, s) k e h = cc
 
   pub agrees-then : {X Y : Type 0} (x : Result X StepFault × ℕ) (r : Result ℕ StepFault) (v : X) (k : X → Step ℕ Y) (f : ℕ → Result ℕ StepFault) (w : Y)
-      → Agrees x r v → ((t : ℕ) → r ≡ Ok t → Agrees (k v t) (f t) w) → Agrees (bindResult k x) (chain m pick cells r f) w
+      → Agrees x r v → ((t : ℕ) → r ≡ Ok t → Agrees (k v t) (f t) w) → Agrees (bindResult k x) (andThen r f) w
   agrees-then x (Ok t) v k f w a h = subst (λ y. Agrees (bindResult k y) (f t) w) (sym a) (h t refl)
   agrees-then x (Err e) v k f w a h = refused-then x k e a
 
-  pub chain-chain : (r : Result ℕ StepFault) (f g : ℕ → Result ℕ StepFault) → chain m pick cells (chain m pick cells r f) g ≡ chain m pick cells r (λ t. chain m pick cells (f t) g)
+  pub chain-chain : (r : Result ℕ StepFault) (f g : ℕ → Result ℕ StepFault) → andThen (andThen r f) g ≡ andThen r (λ t. andThen (f t) g)
   chain-chain (Ok t) f g = refl
   chain-chain (Err e) f g = refl
 

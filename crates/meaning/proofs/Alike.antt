@@ -13,7 +13,7 @@ use Rattle.meaning.specs.Model.{Column, Primitive, boolean, int, long, float, 
 use Rattle.meaning.specs.Items.{little, signed}
 use Rattle.meaning.specs.Slots.{stored}
 use Rattle.meaning.specs.Equal.{sameInteger}
-use Rattle.meaning.specs.Rows.{sameKey, primitiveLiteral}
+use Rattle.meaning.specs.Literals.{primitiveLiteral, sameKey}
 use Rattle.meaning.proofs.Formed.{Bytes}
 use Rattle.meaning.specs.Converter.{sameLiteral}
 

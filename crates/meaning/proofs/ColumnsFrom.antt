@@ -15,7 +15,7 @@ use Rattle.meaning.specs.Items.{column, Rest, _then_, give, exactly, number, t
 use Rattle.meaning.specs.Columns.{Need, free, exact, meets, Offsets, past, unless, offsets, values, Columns, Body, body, bodyOf, firstLen, after, widthOf, columned, siblings, columns}
 use Rattle.meaning.specs.Columns.{parts as share}
 use Rattle.meaning.specs.Encode.{numeral as numberBytes, text as textBytes, optional, columnCode, offsets as offsetBytes, bodyBytes, columnBytes}
-use Rattle.meaning.specs.Keeps.{levels, Bytes, Short, Within, Lengths, firstLength, Cuts, Stored, Bodied, Validity, ColumnsKeep}
+use Rattle.meaning.specs.Keeps.{levels, Bytes, Short, Within, Lengths, Cuts, Stored, Bodied, Validity, ColumnsKeep}
 use Rattle.meaning.proofs.Reading.{Came, Both, parts, refused-not, given, Item, item, exactly-from, number-from, text-from, flag-from, item-then, item-same}
 use Rattle.meaning.proofs.ColumnItems.{offsets-from, unless-past, length-from, Detail, code-from, optional-from, none-past}
 use Rattle.meaning.proofs.ColumnsTo.{lengths-map, columnHead}
@@ -53,7 +53,7 @@ record Pair (l n : ℕ) (os : List ℕ) (ks vs : Forest Column) : Type 0 where
   room : n + size (after ks vs) ≤ 257
   keep : ColumnsKeep (after ks vs)
   within : Lengths (Within os) (after ks vs)
-  alike : Lengths (λ k. k ≡ firstLength (after ks vs)) (after ks vs)
+  alike : Lengths (λ k. k ≡ firstLen (after ks vs)) (after ks vs)
 
 pair : (l n : ℕ) (os : List ℕ) (ks vs : Forest Column) → count ks ≡ 1 → count vs ≡ 1 → levels ks ≤ l → levels vs ≤ l → n + size ks + size vs ≤ 257 → ColumnsKeep ks
     → ColumnsKeep vs

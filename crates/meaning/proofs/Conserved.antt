@@ -15,10 +15,12 @@ use Rattle.meaning.specs.Model.{Model, Field, Shape, prim, struct, list, map, 
 use Rattle.meaning.specs.Lists.{upto, from, anyOf, orZero, sum}
 use Rattle.meaning.specs.Slots.{null, nan, span, spanSlots}
 use Rattle.meaning.specs.Access.{Pick, Own, kids, partner}
-use Rattle.meaning.specs.Rows.{Values, sameBy, kept, joined, parts, Literal, literalAt}
+use Rattle.meaning.specs.Literals.{Literal, Values, literalAt, sameBy}
+use Rattle.meaning.specs.Rows.{kept, joined, parts}
 use Rattle.meaning.specs.Converts.{checkFields}
 use Rattle.meaning.specs.Equal.{sameInteger}
-use Rattle.meaning.specs.Reaches.{reaches, nansIn, nanLiteral, shownWithin, sumElements, sumPairs}
+use Rattle.meaning.specs.Nans.{nanLiteral, sumElements, sumPairs, nansIn}
+use Rattle.meaning.specs.Reaches.{reaches, shownWithin}
 use Rattle.meaning.proofs.Enough.{Plain, Holds, Shaped, Enough}
 use Rattle.meaning.proofs.Keys.{same-alike}
 use Rattle.meaning.proofs.Totals.{sumTo, anyTo, any-upto, sum-ext, sum-none, sum-add, sum-cond, Cuts, hit, sum-cuts}
@@ -130,11 +132,11 @@ module _ (m : Model) (pick : Pick) (id : ℤ) where
 
   -- a slot that is cut, as the counts say it and as a sum over the slots that cut
   module _ (c : ℕ) (shown : ℕ → Bool) (fits : ℕ → ℕ → ℕ → Bool) where
-    within-any : (j : ℕ) → shownWithin m pick c shown fits j ≡ anyTo (at m c .len) (λ i. hit (live c shown i) (lo c i) (hi c i) (fits (lo c i) (hi c i) j) j)
+    within-any : (j : ℕ) → shownWithin m c shown fits j ≡ anyTo (at m c .len) (λ i. hit (live c shown i) (lo c i) (hi c i) (fits (lo c i) (hi c i) j) j)
     within-any j = any-ext _ _ (λ i. sym (and-assoc (shown i) (not (null (at m c) i)) _)) (upto (at m c .len)) ∙ any-upto _ (at m c .len)
 
     within-sum : (p : ℕ) (f : ℕ → ℕ) → Cut c p
-        → sumTo (at m p .len) (λ j. cond (shownWithin m pick c shown fits j) (f j) 0) ≡ sumTo (at m c .len) (λ i. cond (live c shown i) (sum (λ j. cond (fits (lo c i) (hi c i) j) (f j) 0) (spanSlots (at m c) i)) 0)
+        → sumTo (at m p .len) (λ j. cond (shownWithin m c shown fits j) (f j) 0) ≡ sumTo (at m c .len) (λ i. cond (live c shown i) (sum (λ j. cond (fits (lo c i) (hi c i) j) (f j) 0) (spanSlots (at m c) i)) 0)
     within-sum p f k =
         sum-ext (at m p .len) _ _ (λ j h. ap (λ (b : Bool). cond b (f j) 0) (within-any j))
         ∙ sum-cuts (at m c .len) (at m p .len) (lo c) (hi c) k (live c shown) fits f
@@ -158,7 +160,7 @@ module _ (m : Model) (pick : Pick) (id : ℤ) where
     struct-good met gb gr =
         good-under m id (partner m pick struct up c n) _ mate _ _ met
         (good-at m id _ _ _ _ _ (omega arith) struct-sum
-        (good-then m id _ _ _ _ _ _ gb (good-then m id _ _ _ _ _ _ (good-one m id pick f n mate (live c shown)) gr)))
+        (good-then m id _ _ _ _ _ _ gb (good-then m id _ _ _ _ _ _ (good-one m id f n mate (live c shown)) gr)))
 
   -- a list, whose shown elements are those that its shown slots cut
   abbrev any? : ℕ → ℕ → ℕ → Bool
@@ -173,16 +175,16 @@ module _ (m : Model) (pick : Pick) (id : ℤ) where
         sym (each-joined (λ x ps. cond (sameInteger id (f .id) && nanLiteral x) 1 0 + nansIn id below (f .shape) ps) (λ j. literalAt (f .shape) (at m child) j)
         (λ j. cond (null (at m child) j) none (parts m pick below (f .shape) (n + 1) child j)) (spanSlots (at m c) i))
 
-    list-sum : inParts below (f .shape) (n + 1) child (shownWithin m pick c shown any?) + ownNans f child (shownWithin m pick c shown any?) ≡ inParts (tree f below rest) list n c shown
+    list-sum : inParts below (f .shape) (n + 1) child (shownWithin m c shown any?) + ownNans f child (shownWithin m c shown any?) ≡ inParts (tree f below rest) list n c shown
     list-sum =
-        field-sum f below n child (shownWithin m pick c shown any?) e
+        field-sum f below n child (shownWithin m c shown any?) e
         ∙ (within-sum c shown any? child (worth f below n child) k
         ∙ sum-ext (at m c .len) _ _ (λ i h. ap (λ x. cond (live c shown i) x 0) (list-parts i)))
 
-    list-good : partner m pick list up c n ≡ Ok child → Conserved below (f .shape) n (n + 1) child (shownWithin m pick c shown any?) → Conserved (tree f below rest) list up n c shown
+    list-good : partner m pick list up c n ≡ Ok child → Conserved below (f .shape) n (n + 1) child (shownWithin m c shown any?) → Conserved (tree f below rest) list up n c shown
     list-good met gb =
         good-under m id (partner m pick list up c n) _ child _ _ met
-        (good-at m id _ _ _ _ _ (omega arith) list-sum (good-then m id _ _ _ _ _ _ gb (good-one m id pick f n child (shownWithin m pick c shown any?))))
+        (good-at m id _ _ _ _ _ (omega arith) list-sum (good-then m id _ _ _ _ _ _ gb (good-one m id f n child (shownWithin m c shown any?))))
 
   -- a map, whose shown keys are the first and whose shown values the last of their class in a span that a shown slot cuts
   abbrev first? : (ℕ → ℕ → Bool) → ℕ → ℕ → ℕ → Bool
@@ -205,10 +207,10 @@ module _ (m : Model) (pick : Pick) (id : ℤ) where
     alike = sameBy (f .shape) (at m keyed)
 
     abbrev keys : ℕ → Bool
-    keys = shownWithin m pick c shown (first? alike)
+    keys = shownWithin m c shown (first? alike)
 
     abbrev vals : ℕ → Bool
-    vals = shownWithin m pick c shown (last? alike)
+    vals = shownWithin m c shown (last? alike)
 
     -- a key has no parts
     key-worth : (j : ℕ) → cond (sameInteger id (f .id) && nanLiteral (literalAt (f .shape) (at m keyed) j)) 1 0 + nansIn id below (f .shape) none ≡ worth f below n keyed j
@@ -240,8 +242,8 @@ module _ (m : Model) (pick : Pick) (id : ℤ) where
       map-good met met′ gk gv =
           good-under m id (partner m pick map up c n) _ keyed _ _ met
           (good-at m id _ _ _ _ _ (omega arith) map-sum
-          (good-then m id _ _ _ _ _ _ gk (good-then m id _ _ _ _ _ _ (good-one m id pick f n keyed keys)
-          (good-under m id (partner m pick map up c later) _ valued _ _ met′ (good-then m id _ _ _ _ _ _ gv (good-one m id pick g later valued vals))))))
+          (good-then m id _ _ _ _ _ _ gk (good-then m id _ _ _ _ _ _ (good-one m id f n keyed keys)
+          (good-under m id (partner m pick map up c later) _ valued _ _ met′ (good-then m id _ _ _ _ _ _ gv (good-one m id g later valued vals))))))
 
 -- the first field below a map's field has the next number
 abbrev pub Start : Shape → ℕ → ℕ → Type 0
@@ -284,7 +286,7 @@ module _ (m : Model) (pick : Pick) (id : ℤ) (cells : ℕ) (keeps : Enough m) (
       (item-nan m pick cells (f .shape) below n p taken (st .1 .t₁) (st .1 .t₂) (sh .0) (st .1 .inner) (st .1 .mine))
       (list-cuts (at m c .code) (at m c) (at m p .len) (st .0) (keeps .cutting c))
       (st .1 .met)
-      (conserves below (f .shape) n (n + 1) p (shownWithin m pick c shown (any? m pick id)) taken (st .1 .t₁) (start (f .shape) n) (sh .1) (sh .0) (st .1 .inner))
+      (conserves below (f .shape) n (n + 1) p (shownWithin m c shown (any? m pick id)) taken (st .1 .t₁) (start (f .shape) n) (sh .1) (sh .0) (st .1 .inner))
   conserves (tree f below none) map up n c shown taken t b sh ho e = absurd ho
   conserves (tree f below (tree g under′ rest)) map up n c shown taken t b sh ho e =
       let p : ℕ = getD (kids m c) 0 0 in
@@ -303,5 +305,5 @@ module _ (m : Model) (pick : Pick) (id : ℤ) (cells : ℕ) (keeps : Enough m) (
       (subst (λ l. Cuts (at m c .len) l (lo m pick id c) (hi m pick id c)) (sym (keeps .paired c (st .0))) cuts)
       (k .met)
       (w .met)
-      (conserves below (f .shape) n (n + 1) p (shownWithin m pick c shown (first? m pick id same)) taken (k .t₁) (start (f .shape) n) (sh .1) (sh .0) (k .inner))
-      (conserves under′ (g .shape) v (v + 1) q (shownWithin m pick c shown (last? m pick id same)) (k .t₃) (w .t₁) (start (g .shape) v) (sh .2 .1) (sh .2 .0) (w .inner))
+      (conserves below (f .shape) n (n + 1) p (shownWithin m c shown (first? m pick id same)) taken (k .t₁) (start (f .shape) n) (sh .1) (sh .0) (k .inner))
+      (conserves under′ (g .shape) v (v + 1) q (shownWithin m c shown (last? m pick id same)) (k .t₃) (w .t₁) (start (g .shape) v) (sh .2 .1) (sh .2 .0) (w .inner))

@@ -11,8 +11,9 @@ use Rattle.meaning.specs.Forest.{Forest, none, tree, size}
 use Rattle.meaning.specs.Model.{Model, Field, Shape, struct}
 use Rattle.meaning.specs.Lists.{upto}
 use Rattle.meaning.specs.Access.{Pick, Own, StepFault, partner}
-use Rattle.meaning.specs.Rows.{joined, parts, row, rows, nullLiteral, structLiteral}
-use Rattle.meaning.specs.Converts.{fieldHook, chain, converts, ownHook, checkFields}
+use Rattle.meaning.specs.Literals.{nullLiteral, structLiteral}
+use Rattle.meaning.specs.Rows.{joined, parts, row, rows}
+use Rattle.meaning.specs.Converts.{fieldHook, converts, ownHook, checkFields, andThen}
 use Rattle.meaning.proofs.Enough.{Enough}
 use Rattle.meaning.proofs.Formed.{Formed, Filed}
 use Rattle.meaning.specs.Walk.{Step, ret, bind, role, close, finish, walk, bindResult, visitStruct}
@@ -44,8 +45,8 @@ module _ (m : Model) (pick : Pick) (cells : ℕ) (keeps : Enough m) (filed : Fil
 
     abbrev checked : ℕ → ℕ → Result ℕ StepFault
     checked p taken =
-        chain m pick cells (checkFields m pick cells below (f .shape) n (n + 1) p taken) (λ t. chain m pick cells (ownHook m pick cells (f .shape) below n p t)
-        (λ t. chain m pick cells (fieldHook m pick cells s f n c p t) (λ t. checkFields m pick cells rest s up next c t)))
+        andThen (checkFields m pick cells below (f .shape) n (n + 1) p taken) (λ t. andThen (ownHook m cells (f .shape) below n p t)
+        (λ t. andThen (fieldHook m s f n c p t) (λ t. checkFields m pick cells rest s up next c t)))
 
     module _ (pl : Placed m (tree f below rest) n) (fo : Formed (tree f below rest)) (kind : Kind m pick cells s c n) (wb : (p : ℕ) → Walks below (f .shape) n (n + 1) p) (wr : Walks rest s up next c) where
       abbrev here : ℕ
@@ -56,17 +57,17 @@ module _ (m : Model) (pick : Pick) (cells : ℕ) (keeps : Enough m) (filed : Fil
 
       -- the field's type
       type-agrees : (taken : ℕ) → Agrees (bind (conv below (f .shape) n (n + 1) here) (close (converter m cells) (f .shape) n here) taken)
-          (chain m pick cells (checkFields m pick cells below (f .shape) n (n + 1) here taken) (ownHook m pick cells (f .shape) below n here)) mine′
+          (andThen (checkFields m pick cells below (f .shape) n (n + 1) here taken) (ownHook m cells (f .shape) below n here)) mine′
       type-agrees taken =
           agrees-then m pick cells (conv below (f .shape) n (n + 1) here taken) (checkFields m pick cells below (f .shape) n (n + 1) here taken) (results m pick cells below (f .shape) n (n + 1) here)
-          (close (converter m cells) (f .shape) n here) (ownHook m pick cells (f .shape) below n here) mine′ (wb here taken)
+          (close (converter m cells) (f .shape) n here) (ownHook m cells (f .shape) below n here) mine′ (wb here taken)
           (λ t e. close-agrees m pick cells keeps filed mine (f .shape) below n here taken t (placed-type m f below rest n pl) (target-found m pick cells mine s up n c kind) (fo .0) (fo .1) e)
 
       -- its `field`, and the fields after it
       tail-agrees : (t : ℕ) → Agrees (bind (finish (converter m cells) (role s up n) n here mine′) following t)
-          (chain m pick cells (fieldHook m pick cells s f n c here t) (λ t. checkFields m pick cells rest s up next c t)) (mine′ ∷ results m pick cells rest s up next c)
+          (andThen (fieldHook m s f n c here t) (λ t. checkFields m pick cells rest s up next c t)) (mine′ ∷ results m pick cells rest s up next c)
       tail-agrees t =
-          agrees-then m pick cells (finish (converter m cells) (role s up n) n here mine′ t) (fieldHook m pick cells s f n c here t) mine′
+          agrees-then m pick cells (finish (converter m cells) (role s up n) n here mine′ t) (fieldHook m s f n c here t) mine′
           following (λ t. checkFields m pick cells rest s up next c t) (mine′ ∷ results m pick cells rest s up next c)
           (finish-agrees m pick cells keeps mine s f below up n c t kind (placed-here m f below rest n pl))
           (λ u e. agrees-push m pick cells (conv rest s up next c u) (checkFields m pick cells rest s up next c u) mine′ (results m pick cells rest s up next c) (wr u))
@@ -74,11 +75,11 @@ module _ (m : Model) (pick : Pick) (cells : ℕ) (keeps : Enough m) (filed : Fil
       tree-agrees : (taken : ℕ) → Agrees (walked here taken) (checked here taken) (mine′ ∷ results m pick cells rest s up next c)
       tree-agrees taken =
           subst (λ (r : Result ℕ StepFault). Agrees (walked here taken) r (mine′ ∷ results m pick cells rest s up next c))
-          (chain-chain m pick cells (checkFields m pick cells below (f .shape) n (n + 1) here taken) (ownHook m pick cells (f .shape) below n here)
-          (λ t. chain m pick cells (fieldHook m pick cells s f n c here t) (λ t. checkFields m pick cells rest s up next c t)))
+          (chain-chain m pick cells (checkFields m pick cells below (f .shape) n (n + 1) here taken) (ownHook m cells (f .shape) below n here)
+          (λ t. andThen (fieldHook m s f n c here t) (λ t. checkFields m pick cells rest s up next c t)))
           (agrees-then m pick cells (bind (conv below (f .shape) n (n + 1) here) (close (converter m cells) (f .shape) n here) taken)
-          (chain m pick cells (checkFields m pick cells below (f .shape) n (n + 1) here taken) (ownHook m pick cells (f .shape) below n here)) mine′
-          (λ v. bind (finish (converter m cells) (role s up n) n here v) following) (λ t. chain m pick cells (fieldHook m pick cells s f n c here t) (λ t. checkFields m pick cells rest s up next c t))
+          (andThen (checkFields m pick cells below (f .shape) n (n + 1) here taken) (ownHook m cells (f .shape) below n here)) mine′
+          (λ v. bind (finish (converter m cells) (role s up n) n here v) following) (λ t. andThen (fieldHook m s f n c here t) (λ t. checkFields m pick cells rest s up next c t))
           (mine′ ∷ results m pick cells rest s up next c) (type-agrees taken) (λ t e. tail-agrees t))
 
   -- the walk below a type gives its fields' results, or the refusal
@@ -89,7 +90,7 @@ module _ (m : Model) (pick : Pick) (cells : ℕ) (keeps : Enough m) (filed : Fil
       (walk-agrees rest s up (n + 1 + size below) c (placed-rest m f below rest n pl) (fo .2))
     where
       go : (taken : ℕ) (r : Result ℕ StepFault) → partner m pick s up c n ≡ r → ((p : ℕ) → Walks below (f .shape) n (n + 1) p) → Walks rest s up (n + 1 + size below) c
-          → Agrees (bindResult (λ p. walked f below rest s up n c p) (r, taken)) (chain m pick cells r (λ p. checked f below rest s up n c p taken)) (results m pick cells (tree f below rest) s up n c)
+          → Agrees (bindResult (λ p. walked f below rest s up n c p) (r, taken)) (andThen r (λ p. checked f below rest s up n c p taken)) (results m pick cells (tree f below rest) s up n c)
       go taken (Err e) h wb wr = refl
       go taken (Ok p) h wb wr =
           let k = partner-kind m pick cells s up c n p h in
@@ -100,7 +101,7 @@ module _ (m : Model) (pick : Pick) (cells : ℕ) (keeps : Enough m) (filed : Fil
   struct-walks : Agrees (visitStruct m pick (converter m cells) 0 0) (converts m pick cells) (columnOf m pick struct (m .fields) 0 0)
   struct-walks =
       agrees-then m pick cells (conv (m .fields) struct 0 1 0 0) (checkFields m pick cells (m .fields) struct 0 1 0 0) (results m pick cells (m .fields) struct 0 1 0)
-      (close (converter m cells) struct 0 0) (ownHook m pick cells struct (m .fields) 0 0) (columnOf m pick struct (m .fields) 0 0)
+      (close (converter m cells) struct 0 0) (ownHook m cells struct (m .fields) 0 0) (columnOf m pick struct (m .fields) 0 0)
       (walk-agrees (m .fields) struct 0 1 0 (placed-all m) (filed .formed) 0)
       (λ t e. close-agrees m pick cells keeps filed mine struct (m .fields) 0 0 0 t refl refl tt (filed .formed) e)
 

@@ -13,7 +13,8 @@ use Rattle.meaning.specs.Model.{Model, prim, float, words, float32}
 use Rattle.meaning.specs.Keeps.{Keeps, InRange}
 use Rattle.meaning.specs.Lists.{among}
 use Rattle.meaning.specs.Access.{Pick, Own, fault, kids}
-use Rattle.meaning.specs.CounterLaw.{Call, computes, countOf, tableAfter, FewIds}
+use Rattle.meaning.specs.Table.{countOf}
+use Rattle.meaning.specs.CounterLaw.{Call, computes, tableAfter, FewIds}
 
 -- two rows, NaN and 0, under one id
 abbrev small : ℤ → Model

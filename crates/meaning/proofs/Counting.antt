@@ -3,8 +3,7 @@ use mathlib.Core.Path.{_≡_, refl, sym, ap, _∙_}
 use mathlib.Core.List.{List, [], _∷_, _++_}
 use mathlib.Core.Bool.{Bool, true, false, cond, not, _&&_}
 use Prim.Native.Nat.{ℕ, _+_, _-_}
-use lib.Dec.{leb, ltb}
-use lib.ListN.{length}
+use lib.Dec.{ltb}
 use Rattle.std.specs.declared.option.Option.{Option}
 use Rattle.std.specs.declared.option.Option.the-variants.{Some, None}
 use Rattle.std.specs.declared.result.Result.{Result}
@@ -14,9 +13,11 @@ use Rattle.meaning.specs.Model.{Model, Field, Shape, prim, struct, list, map, 
 use Rattle.meaning.specs.Lists.{from, anyOf}
 use Rattle.meaning.specs.Slots.{null}
 use Rattle.meaning.specs.Access.{Pick, Own, StepFault, fault, partner}
-use Rattle.meaning.specs.Rows.{sameBy}
-use Rattle.meaning.specs.Reaches.{Reach, Found, reaches, reached, float?, nans, followedBy, atPartner, oneReach, shownWithin}
-use Rattle.meaning.specs.CounterLaw.{Table, Answer, added, hasId, addReaches}
+use Rattle.meaning.specs.Literals.{sameBy}
+use Rattle.meaning.specs.Codes.{float?}
+use Rattle.meaning.specs.Nans.{nans}
+use Rattle.meaning.specs.Reaches.{Reach, Found, reaches, reached, followedBy, atPartner, oneReach, shownWithin}
+use Rattle.meaning.specs.Table.{hasRoom, Table, added, Answer, addReaches}
 use Rattle.meaning.specs.Walk.{Step, ret, bind, Role, structField, listElement, mapKey, mapValue, role, fieldAt, missing, close, finish, walk, bindResult}
 use Rattle.meaning.proofs.Formed.{Exactly, Formed}
 use Rattle.meaning.specs.Converter.{refuseIf}
@@ -42,7 +43,7 @@ module _ (m : Model) where
   -- one after another, at a partner, and a single reach
   adds-list : (rs : List Reach) (G : Found) (t : Table) → adds (rs ++ (G .0), G .1) t ≡ bindResult (λ _. adds G) (adds (rs, None) t)
   adds-list [] G t = refl
-  adds-list (r ∷ rs) G t = go (float? m (r .column)) (cond (hasId t (r .id)) true (leb (length t + 1) 256)) (adds-list rs G t) (adds-list rs G (added t (r .id) (nans m (r .column))))
+  adds-list (r ∷ rs) G t = go (float? m (r .column)) (hasRoom t (r .id)) (adds-list rs G t) (adds-list rs G (added t (r .id) (nans m (r .column))))
     where
       go : (a b : Bool) → adds (rs ++ (G .0), G .1) t ≡ bindResult (λ _. adds G) (adds (rs, None) t)
           → adds (rs ++ (G .0), G .1) (added t (r .id) (nans m (r .column))) ≡ bindResult (λ _. adds G) (adds (rs, None) (added t (r .id) (nans m (r .column))))
@@ -54,7 +55,7 @@ module _ (m : Model) where
 
   adds-stop : (rs : List Reach) (e : StepFault) (G : Found) (t : Table) → adds (rs, Some e) t ≡ bindResult (λ _. adds G) (adds (rs, Some e) t)
   adds-stop [] e G t = refl
-  adds-stop (r ∷ rs) e G t = go (float? m (r .column)) (cond (hasId t (r .id)) true (leb (length t + 1) 256)) (adds-stop rs e G t) (adds-stop rs e G (added t (r .id) (nans m (r .column))))
+  adds-stop (r ∷ rs) e G t = go (float? m (r .column)) (hasRoom t (r .id)) (adds-stop rs e G t) (adds-stop rs e G (added t (r .id) (nans m (r .column))))
     where
       go : (a b : Bool) → adds (rs, Some e) t ≡ bindResult (λ _. adds G) (adds (rs, Some e) t)
           → adds (rs, Some e) (added t (r .id) (nans m (r .column))) ≡ bindResult (λ _. adds G) (adds (rs, Some e) (added t (r .id) (nans m (r .column))))
@@ -71,7 +72,7 @@ module _ (m : Model) where
   adds-then : (F G : Found) (t : Table) → adds (followedBy F G) t ≡ bindResult (λ _. adds G) (adds F t)
   adds-then F G t = adds-pair (F .0) (F .1) G t
 
-  adds-one : (pick : Pick) (f : Field) (n p : ℕ) (sh : ℕ → Bool) (t : Table) → adds (oneReach m pick f n p sh) t ≡ countReach m (f .id) n p t
+  adds-one : (pick : Pick) (f : Field) (n p : ℕ) (sh : ℕ → Bool) (t : Table) → adds (oneReach f n p sh) t ≡ countReach m (f .id) n p t
   adds-one pick f n p sh t = refl
 
 -- a step whose answer says nothing
@@ -154,25 +155,25 @@ module _ (m : Model) (pick : Pick) (mine : Own m pick) where
 
   -- what a field finds, one part after another
   field-then : (F G : Found) (f : Field) (n p : ℕ) (sh : ℕ → Bool) (t : Table)
-      → adds m (followedBy F (followedBy (oneReach m pick f n p sh) G)) t ≡ bindResult (λ _. bind (countReach m (f .id) n p) (λ _. adds m G)) (adds m F t)
+      → adds m (followedBy F (followedBy (oneReach f n p sh) G)) t ≡ bindResult (λ _. bind (countReach m (f .id) n p) (λ _. adds m G)) (adds m F t)
   field-then F G f n p sh t =
-      adds-then m F (followedBy (oneReach m pick f n p sh) G) t
-      ∙ carry-ext (adds m (followedBy (oneReach m pick f n p sh) G)) (bind (countReach m (f .id) n p) (λ _. adds m G)) (λ u. adds-then m (oneReach m pick f n p sh) G u) (adds m F t)
+      adds-then m F (followedBy (oneReach f n p sh) G) t
+      ∙ carry-ext (adds m (followedBy (oneReach f n p sh) G)) (bind (countReach m (f .id) n p) (λ _. adds m G)) (λ u. adds-then m (oneReach f n p sh) G u) (adds m F t)
 
   field-last : (F : Found) (f : Field) (n p : ℕ) (sh : ℕ → Bool) (t : Table)
-      → adds m (followedBy F (oneReach m pick f n p sh)) t ≡ bindResult (λ _. bind (countReach m (f .id) n p) (λ _. adds m ([], None))) (adds m F t)
+      → adds m (followedBy F (oneReach f n p sh)) t ≡ bindResult (λ _. bind (countReach m (f .id) n p) (λ _. adds m ([], None))) (adds m F t)
   field-last F f n p sh t =
-      adds-then m F (oneReach m pick f n p sh) t
-      ∙ carry-ext (adds m (oneReach m pick f n p sh)) (bind (countReach m (f .id) n p) (λ _. adds m ([], None))) (λ u. sym (carry-unit (countReach m (f .id) n p u))) (adds m F t)
+      adds-then m F (oneReach f n p sh) t
+      ∙ carry-ext (adds m (oneReach f n p sh)) (bind (countReach m (f .id) n p) (λ _. adds m ([], None))) (λ u. sym (carry-unit (countReach m (f .id) n p u))) (adds m F t)
 
   -- one field at its partner, whether it is met or not, with what follows it
   module _ (f : Field) (below rest : Forest Field) (s : Shape) (up n c : ℕ) (pl : Placed m (tree f below rest) n) (exact : Exactly (f .shape) below) (F G : ℕ → Found) (sh : ℕ → ℕ → Bool)
       (wf : (p : ℕ) → Adding m pick below (f .shape) n (n + 1) p (adds m (F p))) (wg : (p : ℕ) → Adding m pick rest s up (n + 1 + size below) c (adds m (G p))) where
-    field-adds : Adding m pick (tree f below rest) s up n c (adds m (atPartner (partner m pick s up c n) (λ p. followedBy (F p) (followedBy (oneReach m pick f n p (sh p)) (G p)))))
+    field-adds : Adding m pick (tree f below rest) s up n c (adds m (atPartner (partner m pick s up c n) (λ p. followedBy (F p) (followedBy (oneReach f n p (sh p)) (G p)))))
     field-adds t = go (partner m pick s up c n) refl
       where
         go : (r : Result ℕ StepFault) → partner m pick s up c n ≡ r
-            → walk m pick (counter m) (tree f below rest) s up n c t ≡ bindResult (λ _. ret (tt ∷ units rest)) (adds m (atPartner r (λ p. followedBy (F p) (followedBy (oneReach m pick f n p (sh p)) (G p)))) t)
+            → walk m pick (counter m) (tree f below rest) s up n c t ≡ bindResult (λ _. ret (tt ∷ units rest)) (adds m (atPartner r (λ p. followedBy (F p) (followedBy (oneReach f n p (sh p)) (G p)))) t)
         go (Err e) h = tree-stops m pick f below rest s up n c e t h
         go (Ok p) h =
             tree-adds m pick f below rest s up n c p (placed-here m f below rest n pl) (partner-found s up c n p h) exact (adds m (F p)) (adds m (G p)) (wf p) (wg p) h t
@@ -180,11 +181,11 @@ module _ (m : Model) (pick : Pick) (mine : Own m pick) where
 
   module _ (f : Field) (below : Forest Field) (s : Shape) (up n c : ℕ) (pl : Placed m (tree f below none) n) (exact : Exactly (f .shape) below) (F : ℕ → Found) (sh : ℕ → ℕ → Bool)
       (wf : (p : ℕ) → Adding m pick below (f .shape) n (n + 1) p (adds m (F p))) where
-    last-adds : Adding m pick (tree f below none) s up n c (adds m (atPartner (partner m pick s up c n) (λ p. followedBy (F p) (oneReach m pick f n p (sh p)))))
+    last-adds : Adding m pick (tree f below none) s up n c (adds m (atPartner (partner m pick s up c n) (λ p. followedBy (F p) (oneReach f n p (sh p)))))
     last-adds t = go (partner m pick s up c n) refl
       where
         go : (r : Result ℕ StepFault) → partner m pick s up c n ≡ r
-            → walk m pick (counter m) (tree f below none) s up n c t ≡ bindResult (λ _. ret (tt ∷ [])) (adds m (atPartner r (λ p. followedBy (F p) (oneReach m pick f n p (sh p)))) t)
+            → walk m pick (counter m) (tree f below none) s up n c t ≡ bindResult (λ _. ret (tt ∷ [])) (adds m (atPartner r (λ p. followedBy (F p) (oneReach f n p (sh p)))) t)
         go (Err e) h = tree-stops m pick f below none s up n c e t h
         go (Ok p) h =
             tree-adds m pick f below none s up n c p (placed-here m f below none n pl) (partner-found s up c n p h) exact (adds m (F p)) (adds m ([], None)) (wf p) (λ u. refl) h t
@@ -200,7 +201,7 @@ module _ (m : Model) (pick : Pick) (mine : Own m pick) where
       (λ p. walk-adds below (f .shape) n (n + 1) p sh (placed-below m f below rest n pl) (fo .1) (fo .0))
       (λ p. walk-adds rest struct up (n + 1 + size below) c shown (placed-rest m f below rest n pl) (fo .2) tt)
   walk-adds (tree f below none) list up n c shown pl fo ex =
-      let sh : ℕ → Bool = shownWithin m pick c shown (λ a b j. true) in
+      let sh : ℕ → Bool = shownWithin m c shown (λ a b j. true) in
       last-adds f below list up n c pl (fo .0) (λ p. reaches m pick below (f .shape) n (n + 1) p sh) (λ p. sh)
       (λ p. walk-adds below (f .shape) n (n + 1) p sh (placed-below m f below none n pl) (fo .1) (fo .0))
   walk-adds (tree f below (tree g under′ rest)) list up n c shown pl fo ex = absurd ex
@@ -208,10 +209,10 @@ module _ (m : Model) (pick : Pick) (mine : Own m pick) where
   walk-adds (tree f below (tree g under′ none)) map up n c shown pl fo ex =
       let v : ℕ = n + 1 + size below in
       let pr : Placed m (tree g under′ none) v = placed-rest m f below (tree g under′ none) n pl in
-      let keys : ℕ → ℕ → Bool = λ p. shownWithin m pick c shown (λ a b j. not (anyOf (sameBy (f .shape) (at m p) j) (from a (j - a)))) in
-      let vals : ℕ → ℕ → Bool = λ p. shownWithin m pick c shown (λ a b j. not (anyOf (sameBy (f .shape) (at m p) j) (from (j + 1) (b - (j + 1))))) in
+      let keys : ℕ → ℕ → Bool = λ p. shownWithin m c shown (λ a b j. not (anyOf (sameBy (f .shape) (at m p) j) (from a (j - a)))) in
+      let vals : ℕ → ℕ → Bool = λ p. shownWithin m c shown (λ a b j. not (anyOf (sameBy (f .shape) (at m p) j) (from (j + 1) (b - (j + 1))))) in
       field-adds f below (tree g under′ none) map up n c pl (fo .0) (λ p. reaches m pick below (f .shape) n (n + 1) p (keys p))
-      (λ p. atPartner (partner m pick map up c v) (λ q. followedBy (reaches m pick under′ (g .shape) v (v + 1) q (vals p)) (oneReach m pick g v q (vals p)))) keys
+      (λ p. atPartner (partner m pick map up c v) (λ q. followedBy (reaches m pick under′ (g .shape) v (v + 1) q (vals p)) (oneReach g v q (vals p)))) keys
       (λ p. walk-adds below (f .shape) n (n + 1) p (keys p) (placed-below m f below (tree g under′ none) n pl) (fo .1) (fo .0))
       (λ p. last-adds g under′ map up v c pr (fo .2 .0) (λ q. reaches m pick under′ (g .shape) v (v + 1) q (vals p)) (λ q. vals p)
       (λ q. walk-adds under′ (g .shape) v (v + 1) q (vals p) (placed-below m g under′ none v pr) (fo .2 .1) (fo .2 .0)))

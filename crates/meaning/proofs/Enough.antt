@@ -6,7 +6,8 @@ use lib.ListN.{getD}
 use Rattle.meaning.specs.Forest.{Forest, none, tree, size}
 use Rattle.meaning.specs.Model.{Model, Column, Field, Shape, prim, struct, list, map, Code, bits, words, variable, fixedSizeBinary, structs, lists, largeLists, fixedSizeLists, maps, at}
 use Rattle.meaning.specs.Lists.{among}
-use Rattle.meaning.specs.Access.{kids, struct?, map?}
+use Rattle.meaning.specs.Codes.{struct?, map?}
+use Rattle.meaning.specs.Access.{kids}
 
 abbrev pub Plain : Shape → Type 0
 Plain (prim p) = Unit {0}

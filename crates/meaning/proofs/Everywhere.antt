@@ -7,7 +7,8 @@ use native.Mathlib.Omega.{arith}
 use lib.ListN.{length, getD}
 use Rattle.meaning.specs.Forest.{beside}
 use Rattle.meaning.specs.Lists.{upto, from, anyOf, sum}
-use Rattle.meaning.specs.Rows.{Values, joined, lastSame, keptFrom, kept}
+use Rattle.meaning.specs.Literals.{Values}
+use Rattle.meaning.specs.Rows.{joined, lastSame, keptFrom, kept}
 
 abbrev pub All : {X : Type 0} → (X → Type 0) → List X → Type 0
 All P [] = Unit {0}

@@ -13,7 +13,8 @@ use Rattle.meaning.specs.Access.{Pick, Own}
 use Rattle.meaning.specs.Rows.{rows}
 use Rattle.meaning.specs.Converts.{converts}
 use Rattle.meaning.specs.Reaches.{reached}
-use Rattle.meaning.specs.CounterLaw.{Call, computes, rowNans, countOf, hiddenNansOf}
+use Rattle.meaning.specs.Table.{countOf}
+use Rattle.meaning.specs.CounterLaw.{Call, computes, rowNans, hiddenNansOf}
 use Rattle.meaning.specs.Keeps.{Keeps, ColumnsKeep}
 use Rattle.meaning.specs.Converter.{listed, conversion}
 use Rattle.meaning.proofs.Filing.{converted-law}

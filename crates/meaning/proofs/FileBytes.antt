@@ -11,7 +11,8 @@ use Rattle.std.specs.declared.option.Option.the-variants.{Some, None}
 use Rattle.std.proofs.shelf.Tests.{cases-bool, ltb-true}
 use Rattle.meaning.specs.Forest.{Forest, none, tree, count}
 use Rattle.meaning.specs.Model.{Model, Field, Column, Shape, prim, struct, list, map, Primitive, boolean, int, long, float, double, date, time, timestamp, timestamptz, timestampNs, timestamptzNs, string, uuid, fixed, binary, Code, bits, words, variable, fixedSizeBinary, structs, lists, largeLists, fixedSizeLists, maps, int32, int64, float32, float64, date32, time64, micros, nanos, utf8, largeUtf8, binaries, largeBinary}
-use Rattle.meaning.specs.Encode.{groups, numeral, fixedWidth, text, flag, unsigned, optional, primitiveCode, shapeCode, fieldBytes, columnCode, offsets, wideOffsets, bodyBytes, columnBytes, encode}
+use Rattle.meaning.specs.Columns.{offsetOf}
+use Rattle.meaning.specs.Encode.{groups, numeral, fixedWidth, text, flag, unsigned, optional, primitiveCode, shapeCode, fieldBytes, columnCode, offsets, bodyBytes, columnBytes, encode}
 use Rattle.meaning.specs.Keeps.{Bytes, Short, Optional, Bodied, Validity, FieldsKeep, ColumnsKeep, Keeps}
 use Rattle.meaning.proofs.Widths.{width-bytes}
 
@@ -104,7 +105,7 @@ body-bytes : (c : Code) (x : Column) (below : Forest Column) → Bodied c x belo
 body-bytes bits x below p = p .1
 body-bytes (words w) x below p = p .1
 body-bytes (fixedSizeBinary w) x below p = p .2 .1
-body-bytes (variable t) x below p = both (offsets (wideOffsets t) (x .offsets)) (text (x .body)) (offset-bytes (wideOffsets t) (x .offsets))
+body-bytes (variable t) x below p = both (offsets (offsetOf t) (x .offsets)) (text (x .body)) (offset-bytes (offsetOf t) (x .offsets))
     (text-bytes (x .body) (p .2))
 body-bytes structs x below p = groups-bytes 5 (count below)
 body-bytes lists x below p = offset-bytes 4 (x .offsets)

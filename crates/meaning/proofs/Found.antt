@@ -12,7 +12,8 @@ use Rattle.std.specs.declared.result.Result.{Result}
 use Rattle.std.specs.declared.result.Result.the-variants.{Ok}
 use Rattle.meaning.specs.Model.{Model, Field, at}
 use Rattle.meaning.specs.Slots.{nan}
-use Rattle.meaning.specs.Access.{Pick, StepFault}
+use Rattle.meaning.specs.Access.{StepFault}
+use Rattle.meaning.specs.Lists.{sum}
 use Rattle.meaning.specs.Equal.{sameInteger}
 use Rattle.meaning.specs.Reaches.{Reach, Found, followedBy, atPartner, oneReach}
 use Rattle.meaning.proofs.Totals.{sumTo}
@@ -23,8 +24,7 @@ module _ (m : Model) (id : ℤ) where
   shownNans r = sumTo (at m (r .column) .len) (λ i. cond (nan (at m (r .column)) i && r .shown i) 1 0)
 
   abbrev pub shownIn : List Reach → ℕ
-  shownIn [] = 0
-  shownIn (r ∷ rs) = cond (sameInteger id (r .id)) (shownNans r) 0 + shownIn rs
+  shownIn rs = sum (λ r. cond (sameInteger id (r .id)) (shownNans r) 0) rs
 
   pub record Good (F : Found) (k s : ℕ) : Type 0 where
     pub whole : F .1 ≡ None
@@ -55,6 +55,6 @@ module _ (m : Model) (id : ℤ) where
   good-under r k p l t e g = subst (λ (q : Result ℕ StepFault). Good (atPartner q k) l t) (sym e) g
 
   -- a single reach
-  pub good-one : (pick : Pick) (f : Field) (n p : ℕ) (shown : ℕ → Bool)
-      → Good (oneReach m pick f n p shown) 1 (cond (sameInteger id (f .id)) (sumTo (at m p .len) (λ i. cond (nan (at m p) i && shown i) 1 0)) 0)
-  good-one pick f n p shown = record { whole = refl; few = omega arith; shows = omega arith }
+  pub good-one : (f : Field) (n p : ℕ) (shown : ℕ → Bool)
+      → Good (oneReach f n p shown) 1 (cond (sameInteger id (f .id)) (sumTo (at m p .len) (λ i. cond (nan (at m p) i && shown i) 1 0)) 0)
+  good-one f n p shown = record { whole = refl; few = omega arith; shows = omega arith }

@@ -6,7 +6,7 @@ use lib.IntN.{ℤ, pos, negsuc}
 use Rattle.std.proofs.shelf.Tests.{eqb-true, eq-eqb}
 use Rattle.std.proofs.shelf.Ways.{tells}
 use Rattle.meaning.specs.Equal.{sameInteger}
-use Rattle.meaning.specs.CounterLaw.{below}
+use lib.Signed.{ltZ}
 
 pub same-self : (a : ℤ) → sameInteger a a ≡ true
 same-self (pos a) = eq-eqb a a refl
@@ -18,13 +18,13 @@ same-eq (pos a) (negsuc b) h = cc
 same-eq (negsuc a) (pos b) h = cc
 same-eq (negsuc a) (negsuc b) h = ap negsuc (eqb-true a b h)
 
-pub below-apart : (a b : ℤ) → below a b ≡ true → sameInteger a b ≡ false
+pub below-apart : (a b : ℤ) → ltZ a b ≡ true → sameInteger a b ≡ false
 below-apart (pos a) (pos b) h = grind (arith, tells)
 below-apart (pos a) (negsuc b) h = refl
 below-apart (negsuc a) (pos b) h = refl
 below-apart (negsuc a) (negsuc b) h = grind (arith, tells)
 
-pub below-on : (a b c : ℤ) → below a b ≡ true → below b c ≡ true → below a c ≡ true
+pub below-on : (a b c : ℤ) → ltZ a b ≡ true → ltZ b c ≡ true → ltZ a c ≡ true
 below-on (pos a) (pos b) (pos c) h k = grind (arith, tells)
 below-on (pos a) (pos b) (negsuc c) h k = k
 below-on (pos a) (negsuc b) (pos c) h k = cc
@@ -35,7 +35,7 @@ below-on (negsuc a) (negsuc b) (pos c) h k = refl
 below-on (negsuc a) (negsuc b) (negsuc c) h k = grind (arith, tells)
 
 -- of two ids that differ, one is below the other
-pub below-else : (a b : ℤ) → sameInteger a b ≡ false → below a b ≡ false → below b a ≡ true
+pub below-else : (a b : ℤ) → sameInteger a b ≡ false → ltZ a b ≡ false → ltZ b a ≡ true
 below-else (pos a) (pos b) h k = grind (arith, tells)
 below-else (pos a) (negsuc b) h k = refl
 below-else (negsuc a) (pos b) h k = cc

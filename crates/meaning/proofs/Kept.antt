@@ -11,7 +11,8 @@ use Rattle.std.proofs.shelf.Tests.{eqb-true, eq-eqb, ne-eqb, lt-ltb, le-ltb}
 use Rattle.meaning.specs.Forest.{Forest, none, tree, size, numbers, find}
 use Rattle.meaning.specs.Model.{Model, Column, Code, bits, words, variable, fixedSizeBinary, structs, lists, largeLists, fixedSizeLists, maps, batch, column, head, below, at}
 use Rattle.meaning.specs.Lists.{among}
-use Rattle.meaning.specs.Access.{kids, struct?, map?, isStruct, isMap}
+use Rattle.meaning.specs.Codes.{isStruct, isMap, struct?, map?}
+use Rattle.meaning.specs.Access.{kids}
 use Rattle.meaning.proofs.Enough.{Enough, Cutting, Ascends}
 use Rattle.meaning.proofs.Trees.{Long, Below, Sound, Rules}
 

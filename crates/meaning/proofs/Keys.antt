@@ -1,7 +1,7 @@
 -- Key equality is reflexive, symmetric and transitive, for every primitive.
 use mathlib.Core.Path.{_≡_, refl, sym, ap, ap₂, _∙_, subst}
 use mathlib.Core.List.{List, [], _∷_}
-use mathlib.Core.Bool.{Bool, true, false, cond, not, _&&_, _||_}
+use mathlib.Core.Bool.{Bool, true, false, not, _&&_, _||_}
 use mathlib.Core.Logic.{_⊎_, ⊎-elim}
 use Prim.Native.Nat.{ℕ}
 use native.Mathlib.Omega.{arith}
@@ -11,7 +11,7 @@ use Rattle.std.proofs.shelf.Tests.{eq-eqb, eqb-true, and-parts, and-from, or-ca
 use Rattle.meaning.specs.Model.{Column, Shape, prim, struct, list, map, Primitive, boolean, int, long, float, double, date, time, timestamp, timestamptz, timestampNs, timestamptzNs, string, uuid, fixed, binary}
 use Rattle.meaning.specs.Slots.{bit, stored, nan32, nan64}
 use Rattle.meaning.specs.Equal.{sameBytes, sameBoolean}
-use Rattle.meaning.specs.Rows.{bytesAt, zero32, zero64, same32, same64, sameKey, sameBy}
+use Rattle.meaning.specs.Literals.{bytesAt, zero32, zero64, same32, same64, sameKey, sameBy}
 
 pub record Alike {X : Type 0} (same : X → X → Bool) : Type 0 where
   pub self : (a : X) → same a a ≡ true

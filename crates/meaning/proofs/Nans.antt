@@ -7,12 +7,15 @@ use native.Mathlib.Nat.{suc-mul}
 use native.Mathlib.Omega.{arith}
 use lib.IntN.{ℤ}
 use lib.ListN.{length}
-use Rattle.meaning.specs.Model.{Model, Code, bits, words, variable, fixedSizeBinary, structs, lists, largeLists, fixedSizeLists, maps, int32, int64, float32, float64, date32, time64, micros, nanos, at}
-use Rattle.meaning.specs.Lists.{upto, tally}
-use Rattle.meaning.specs.Slots.{null, nan, nanBy}
+use Rattle.meaning.specs.Model.{Model, at}
+use Rattle.meaning.specs.Lists.{upto, sum, tally}
+use Rattle.meaning.specs.Slots.{null, nan}
 use Rattle.meaning.specs.Equal.{sameInteger}
-use Rattle.meaning.specs.Reaches.{Reach, nans, hiddenNans, float?, isFloat}
+use Rattle.meaning.specs.Codes.{float?}
+use Rattle.meaning.specs.Nans.{nans, hiddenNans}
+use Rattle.meaning.specs.Reaches.{Reach}
 use Rattle.meaning.proofs.Totals.{sumTo, tally-upto, sum-none}
+use Rattle.meaning.proofs.Codes.{no-nan}
 use Rattle.meaning.proofs.Found.{shownNans, shownIn}
 
 -- a column's NaNs are the shown and the hidden ones, and no more than its slots
@@ -42,33 +45,14 @@ tally-small : (p : ℕ → Bool) (n : ℕ) → sumTo n (λ i. cond (p i) 1 0) �
 tally-small p zero = omega arith
 tally-small p (suc n) = omega (arith, cond-small (p 0), tally-small (λ i. p (suc i)) n)
 
--- a column that is no float column holds no NaN
-dull : (k : Code) (body : List ℕ) (i : ℕ) → isFloat k ≡ false → nanBy k body i ≡ false
-dull bits body i e = refl
-dull (words int32) body i e = refl
-dull (words int64) body i e = refl
-dull (words float32) body i e = cc
-dull (words float64) body i e = cc
-dull (words date32) body i e = refl
-dull (words time64) body i e = refl
-dull (words micros) body i e = refl
-dull (words nanos) body i e = refl
-dull (variable t) body i e = refl
-dull (fixedSizeBinary w) body i e = refl
-dull structs body i e = refl
-dull lists body i e = refl
-dull largeLists body i e = refl
-dull (fixedSizeLists s) body i e = refl
-dull maps body i e = refl
-
 module _ (m : Model) where
   nans-split : (id : ℤ) (r : Reach) → nans m (r .column) ≡ shownNans m id r + hiddenNans m r
   nans-split id r =
       tally-split (nan (at m (r .column))) (r .shown) (upto (at m (r .column) .len))
       ∙ ap (λ k. k + hiddenNans m r) (tally-upto (λ i. nan (at m (r .column)) i && r .shown i) (at m (r .column) .len))
 
-  pub nans-dull : (c : ℕ) → float? m c ≡ false → nans m c ≡ 0
-  nans-dull c e = tally-upto (nan (at m c)) (at m c .len) ∙ sum-none (at m c .len) _ (λ i h. ap (λ (b : Bool). cond (not (null (at m c) i) && b) 1 0) (dull (at m c .code) (at m c .body) i e) ∙ ap (λ (b : Bool). cond b 1 0) (and-false (not (null (at m c) i))))
+  pub nans-none : (c : ℕ) → float? m c ≡ false → nans m c ≡ 0
+  nans-none c e = tally-upto (nan (at m c)) (at m c .len) ∙ sum-none (at m c .len) _ (λ i h. ap (λ (b : Bool). cond (not (null (at m c) i) && b) 1 0) (no-nan (at m c .code) (at m c .body) i e) ∙ ap (λ (b : Bool). cond b 1 0) (and-false (not (null (at m c) i))))
 
   pub nans-small : (c : ℕ) → nans m c ≤ at m c .len
   nans-small c = subst (λ k. k ≤ at m c .len) (sym (tally-upto (nan (at m c)) (at m c .len))) (tally-small (nan (at m c)) (at m c .len))
@@ -76,12 +60,10 @@ module _ (m : Model) where
 -- the NaNs of the columns reached under an id
 module _ (m : Model) (id : ℤ) where
   abbrev pub reachSum : List Reach → ℕ
-  reachSum [] = 0
-  reachSum (r ∷ rs) = cond (sameInteger id (r .id)) (nans m (r .column)) 0 + reachSum rs
+  reachSum rs = sum (λ r. cond (sameInteger id (r .id)) (nans m (r .column)) 0) rs
 
   abbrev pub hiddenSum : List Reach → ℕ
-  hiddenSum [] = 0
-  hiddenSum (r ∷ rs) = cond (sameInteger id (r .id)) (hiddenNans m r) 0 + hiddenSum rs
+  hiddenSum rs = sum (λ r. cond (sameInteger id (r .id)) (hiddenNans m r) 0) rs
 
   pub sum-hidden : (rs : List Reach) → reachSum rs ≡ shownIn m id rs + hiddenSum rs
   sum-hidden [] = refl

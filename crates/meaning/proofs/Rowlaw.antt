@@ -1,7 +1,8 @@
 -- The law of rows.
-use mathlib.Core.Path.{_≡_, refl, sym, ap, _∙_, subst}
+use mathlib.Core.Path.{_≡_, refl, sym, ap, _∙_}
 use mathlib.Core.List.{List, [], _∷_}
-use mathlib.Core.Bool.{false, cond, not, _&&_}
+use mathlib.Core.Bool.{Bool, true, false, cond, not, _&&_}
+use mathlib.Core.Logic.{inl, inr}
 use Prim.Native.Nat.{ℕ, _+_, _-_, _^_, _≤_, _<_}
 use native.Mathlib.Nat.{le-trans}
 use native.Mathlib.Omega.{arith}
@@ -9,25 +10,28 @@ use lib.Dec.{ltb}
 use lib.IntN.{ℤ, pos}
 use lib.ListN.{length}
 use Rattle.std.specs.declared.option.Option.{Option}
-use Rattle.std.specs.declared.option.Option.the-variants.{Some, None}
 use Rattle.std.specs.declared.result.Result.the-variants.{Ok}
-use Rattle.std.proofs.shelf.Tests.{lt-ltb}
+use Rattle.std.proofs.shelf.Tests.{cases-bool, lt-ltb}
 use Rattle.meaning.specs.Forest.{size}
 use Rattle.meaning.specs.Model.{Model, struct}
-use Rattle.meaning.specs.Lists.{upto, orZero, sum}
+use Rattle.meaning.specs.Lists.{upto, sum, orZero}
+use Rattle.meaning.specs.Equal.{sameInteger}
+use Rattle.meaning.specs.Codes.{float?}
 use Rattle.meaning.specs.Access.{StepFault}
 use Rattle.meaning.specs.Rows.{parts, row, rows, joined}
 use Rattle.meaning.specs.Converts.{converts, checkFields}
-use Rattle.meaning.specs.Equal.{sameInteger}
-use Rattle.meaning.specs.Reaches.{Reach, reached, nansIn, hiddenNans}
-use Rattle.meaning.specs.CounterLaw.{Call, computes, rowNans, Rows-law, countOf, addReaches, hiddenNansOf}
+use Rattle.meaning.specs.Reaches.{Reach, reached}
+use Rattle.meaning.specs.Nans.{nans, nansIn}
+use Rattle.meaning.specs.Table.{Table, countOf, Answer, answer}
+use Rattle.meaning.specs.CounterLaw.{Call, computes, floatAdditions, sumOf, hiddenNansOf, rowNans, Rows-law}
 use Rattle.meaning.proofs.Filing.{keeps-enough}
 use Rattle.meaning.proofs.Totals.{total-upto, sum-ext}
 use Rattle.meaning.proofs.Accepted.{chain-ok}
 use Rattle.meaning.proofs.Found.{Good}
 use Rattle.meaning.proofs.Conserved.{inParts, conserves}
-use Rattle.meaning.proofs.Nans.{reachSum, hiddenSum, sum-hidden, reach-bound, nans-small}
-use Rattle.meaning.proofs.Counter.{Counts, counts-all, orNought}
+use Rattle.meaning.proofs.Nans.{reachSum, sum-hidden, reach-bound, nans-small, nans-none}
+use Rattle.meaning.proofs.Additions.{folded, length-distinct, distinct-most, count-folded}
+use Rattle.meaning.proofs.Sums.{adding-all}
 
 module _ (c : Call) (id : ℤ) where
   abbrev m : Model
@@ -36,14 +40,26 @@ module _ (c : Call) (id : ℤ) where
   abbrev ours : List Reach
   ours = reached m (c .pick) .0
 
-  -- the law's words for the sums
-  hidden-sum : (rs : List Reach) → hiddenSum m id rs ≡ hiddenNansOf c id rs
-  hidden-sum [] = refl
-  hidden-sum (r ∷ rs) = ap (λ k. cond (sameInteger id (r .id)) (hiddenNans m r) 0 + k) (hidden-sum rs)
+  -- what the float columns add is what all columns reached add, since no other column holds a NaN
+  none-added : (b : Bool) (x : ℕ) → x ≡ 0 → cond b x 0 ≡ 0
+  none-added true x e = e
+  none-added false x e = refl
 
-  or-zero : (o : Option ℕ) → orZero o ≡ orNought o
-  or-zero None = refl
-  or-zero (Some n) = refl
+  additions-sum : (rs : List Reach) → sumOf id (floatAdditions m rs) ≡ reachSum m id rs
+  additions-sum [] = refl
+  additions-sum (r ∷ rs) =
+      elim (cases-bool (float? m (r .column))) [
+        | inl f ↦ rw f (omega (arith, additions-sum rs))
+        | inr f ↦ rw f (omega (arith, additions-sum rs, none-added (sameInteger id (r .id)) (nans m (r .column)) (nans-none m (r .column) f)))
+      ]
+
+  additions-few : (rs : List Reach) → length (floatAdditions m rs) ≤ length rs
+  additions-few [] = omega arith
+  additions-few (r ∷ rs) =
+      elim (cases-bool (float? m (r .column))) [
+        | inl f ↦ rw f (omega (arith, additions-few rs))
+        | inr f ↦ rw f (omega (arith, additions-few rs))
+      ]
 
   rows-joined : (xs : List ℕ) → rowNans id c (joined (row m (c .pick)) xs) ≡ sum (λ i. nansIn id (m .fields) struct (parts m (c .pick) (m .fields) struct 1 0 i)) xs
   rows-joined [] = refl
@@ -69,14 +85,23 @@ module _ (c : Call) (id : ℤ) where
     small : reachSum m id ours ≤ 2 ^ 64 - 1
     small = omega (arith, few, reach-bound m id 65536 (λ x. le-trans (nans-small m x) (keeps-enough m (c .keeps) .short x)) ours)
 
-    counted-all : Counts m id [] (reachSum m id ours) (computes c [])
-    counted-all = subst (λ (o : Option StepFault). Counts m id [] (reachSum m id ours) (addReaches m [] ours o)) (sym (walked .whole)) (counts-all m id ours [] tt (omega (arith, few)) (omega (arith, small)))
+    fits : length (folded [] (floatAdditions m ours)) ≤ 256
+    fits = omega (arith, few, additions-few ours, distinct-most (floatAdditions m ours), length-distinct (floatAdditions m ours))
+
+    computed : computes c [] ≡ (Ok tt, folded [] (floatAdditions m ours))
+    computed = adding-all m [] ours (reached m (c .pick) .1) fits ∙ ap (λ (o : Option StepFault). (answer o, folded [] (floatAdditions m ours))) (walked .whole)
+
+    accepted : computes c [] .0 ≡ Ok tt
+    accepted = ap (λ (o : Answer × Table). o .0) computed
 
     conserved : orZero (countOf (computes c [] .1) id) ≡ rowNans id c (rows m (c .pick)) + hiddenNansOf c id ours
-    conserved = or-zero (countOf (computes c [] .1) id) ∙ (counted-all .counts ∙ omega (arith, sum-hidden m id ours, walked .shows, rows-shown, hidden-sum ours))
+    conserved =
+        ap (λ (o : Answer × Table). orZero (countOf (o .1) id)) computed
+        ∙ (count-folded (floatAdditions m ours) id (omega (arith, small, additions-sum ours))
+        ∙ omega (arith, additions-sum ours, sum-hidden m id ours, walked .shows, rows-shown))
 
 pub rows-law : Rows-law
 rows-law = record {
-  accepted = λ c cells taken e. counted-all c (pos 0) cells taken e .taken;
+  accepted = λ c cells taken e. accepted c (pos 0) cells taken e;
   conserved = λ c cells taken e id. conserved c id cells taken e;
 }

@@ -13,8 +13,10 @@ use Rattle.meaning.specs.Forest.{Forest, none, tree, size, count}
 use Rattle.meaning.specs.Model.{Model, Column, Field, Shape, prim, struct, list, map, Primitive, boolean, int, long, float, double, date, time, timestamp, timestamptz, timestampNs, timestamptzNs, string, uuid, fixed, binary, Code, bits, words, variable, fixedSizeBinary, structs, lists, largeLists, fixedSizeLists, maps, at}
 use Rattle.meaning.specs.Lists.{upto, anyOf, sum, orZero}
 use Rattle.meaning.specs.Slots.{null, span, spanSlots}
-use Rattle.meaning.specs.Access.{Pick, Own, fault, kids, struct?, list?, map?}
-use Rattle.meaning.specs.Rows.{Values, sameBy, joined, kept, parts, nullLiteral, structLiteral, listLiteral, mapLiteral, primitiveLiteral, literalBy, literalAt}
+use Rattle.meaning.specs.Codes.{struct?, list?, map?}
+use Rattle.meaning.specs.Access.{Pick, Own, fault, kids}
+use Rattle.meaning.specs.Literals.{nullLiteral, structLiteral, listLiteral, mapLiteral, Values, primitiveLiteral, literalBy, literalAt, sameBy}
+use Rattle.meaning.specs.Rows.{joined, kept, parts}
 use Rattle.meaning.specs.Converts.{accepts, takes, fieldHook, nullInSpans, ownHook, checkFields}
 use Rattle.meaning.proofs.Enough.{Plain, Cutting, Enough}
 use Rattle.meaning.proofs.Formed.{Exactly, Formed, Bytes, Filed}
@@ -107,11 +109,11 @@ module _ (m : Model) (pick : Pick) where
 
   -- a primitive
   module _ (cells : ℕ) (k : Primitive) (n c taken : ℕ) where
-    prim-agrees : typeAt m n ≡ Some (prim k, none) → missing m c ≡ false → Agrees (close (converter m cells) (prim k) n c [] taken) (ownHook m pick cells (prim k) none n c taken) (columnOf (prim k) none n c)
+    prim-agrees : typeAt m n ≡ Some (prim k, none) → missing m c ≡ false → Agrees (close (converter m cells) (prim k) n c [] taken) (ownHook m cells (prim k) none n c taken) (columnOf (prim k) none n c)
     prim-agrees e seen =
         agrees-sought m (primOf (typeAt m n)) k n c _ taken _ _ (ap primOf e) seen
         (agrees-test (accepts k (at m c .code)) (fault 14 c n) _ taken _ _
-        (agrees-as _ (takes m pick cells n c (at m c .len) taken) _ _
+        (agrees-as _ (takes cells n c (at m c .len) taken) _ _
         (each-ext _ (valueOf (prim k) none n c) (upto (at m c .len)) (all-upto _ (at m c .len) (λ i h. ap (λ (v : Values). (literalAt (prim k) (at m c) i, v)) (sym (cond-same (null (at m c) i) none)))))
         (agrees-taking m pick cells n c (at m c .len) taken _)))
 
@@ -141,7 +143,7 @@ module _ (m : Model) (pick : Pick) (cells : ℕ) where
 
   -- the nulls of a result in the spans of slots that are not null are those of the column
   null-holds : (s : Shape) (below : Forest Field) (n c q : ℕ) → Cuts (at m c .len) (at m q .len) (λ i. span (at m c) i .0) (λ i. span (at m c) i .1)
-      → nullInSpan (at m c) (at m c .len) (columnOf m pick s below n q) ≡ nullInSpans m pick cells c q
+      → nullInSpan (at m c) (at m c .len) (columnOf m pick s below n q) ≡ nullInSpans m c q
   null-holds s below n c q k = some-ext _ _ (upto (at m c .len)) (all-upto _ (at m c .len) (λ i h.
       ap (λ (b : Bool). not (null (at m c) i) && b) (some-ext _ _ (spanSlots (at m c) i) (all-cut (at m c) (at m q .len) k _ i h (λ j t. column-null m pick s below n q j t)))))
 
@@ -167,14 +169,14 @@ module _ (m : Model) (pick : Pick) (cells : ℕ) where
         ap₂ putBefore (column-slot m pick (f .shape) below n (orZero (pick c n)) i (omega arith)) (struct-across rest up (n + 1 + size below) c (st .1 .t₃) t (st .1 .after) i h)
 
     struct-agrees : (fs : Forest Field) (n c taken t : ℕ) → typeAt m n ≡ Some (struct, fs) → missing m c ≡ false → checkFields m pick cells fs struct n (n + 1) c taken ≡ Ok t
-        → Agrees (close (converter m cells) struct n c (results fs struct n (n + 1) c) t) (ownHook m pick cells struct fs n c t) (columnOf m pick struct fs n c)
+        → Agrees (close (converter m cells) struct n c (results fs struct n (n + 1) c) t) (ownHook m cells struct fs n c t) (columnOf m pick struct fs n c)
     struct-agrees fs n c taken t e seen k =
         agrees-sought m (structOf (typeAt m n)) tt n c _ t _ _ (ap structOf e) seen
         (agrees-pass (uneven (at m c .len) rs) (fault 17 c n) _ t _ _ (struct-even fs n (n + 1) c taken t k)
-        (subst (λ (l : ℕ). Agrees (refuseIf (eqb l 0 && not (struct? m c)) (fault 14 c n) (taking m cells n c (at m c .len + l * at m c .len) vs) t) (ownHook m pick cells struct fs n c t) (columnOf m pick struct fs n c))
+        (subst (λ (l : ℕ). Agrees (refuseIf (eqb l 0 && not (struct? m c)) (fault 14 c n) (taking m cells n c (at m c .len + l * at m c .len) vs) t) (ownHook m cells struct fs n c t) (columnOf m pick struct fs n c))
         (sym (results-count fs struct n (n + 1) c))
         (agrees-unless (eqb (count fs) 0 && not (struct? m c)) (fault 14 c n) _ t _ _ (λ _.
-        agrees-as _ (takes m pick cells n c (at m c .len + count fs * at m c .len) t) vs (columnOf m pick struct fs n c) same (agrees-taking m pick cells n c (at m c .len + count fs * at m c .len) t vs)))))
+        agrees-as _ (takes cells n c (at m c .len + count fs * at m c .len) t) vs (columnOf m pick struct fs n c) same (agrees-taking m pick cells n c (at m c .len + count fs * at m c .len) t vs)))))
       where
         rs : List (List Value)
         rs = results fs struct n (n + 1) c
@@ -212,20 +214,20 @@ module _ (m : Model) (pick : Pick) (cells : ℕ) where
         (refuseIf (g .required && nullInSpan (at m c) rows inside) (fault 16 c n)
         (taking m cells n c rows (rowValues (at m c) rows listLiteral (elements (at m c) inside))))
 
-    list-body : Agrees (listBody (at m child .len) (at m c .len) t) (ownHook m pick cells list (tree g under none) n c t) (columnOf m pick list (tree g under none) n c)
+    list-body : Agrees (listBody (at m child .len) (at m c .len) t) (ownHook m cells list (tree g under none) n c t) (columnOf m pick list (tree g under none) n c)
     list-body =
         agrees-pass (pastEnd (at m c) (at m c .len) (at m child .len)) (fault 20 c n) _ t _ _ (none-past (at m c) (at m child .len) list-spans)
-        (agrees-retest (g .required && nullInSpan (at m c) (at m c .len) inside) (g .required && nullInSpans m pick cells c child) (fault 16 c n) _ t _ _
+        (agrees-retest (g .required && nullInSpan (at m c) (at m c .len) inside) (g .required && nullInSpans m c child) (fault 16 c n) _ t _ _
         (ap (λ (b : Bool). g .required && b) (null-holds (g .shape) under (n + 1) c child list-spans)) (λ _.
-        agrees-as _ (takes m pick cells n c (at m c .len) t) _ _ list-rows (agrees-taking m pick cells n c (at m c .len) t _)))
+        agrees-as _ (takes cells n c (at m c .len) t) _ _ list-rows (agrees-taking m pick cells n c (at m c .len) t _)))
 
-    list-agrees : Agrees (close (converter m cells) list n c (results (tree g under none) list n (n + 1) c) t) (ownHook m pick cells list (tree g under none) n c t) (columnOf m pick list (tree g under none) n c)
+    list-agrees : Agrees (close (converter m cells) list n c (results (tree g under none) list n (n + 1) c) t) (ownHook m cells list (tree g under none) n c t) (columnOf m pick list (tree g under none) n c)
     list-agrees =
         agrees-sought m (listOf (typeAt m n)) (g .required) n c _ t _ _ (ap listOf ty) seen
         (agrees-pass (not (list? m c)) (fault 12 c n) _ t _ _ (not-from-true (list? m c) kind)
-        (subst (λ (l : ℕ). Agrees (listBody l (listRows (at m c .code) (at m c .len) l) t) (ownHook m pick cells list (tree g under none) n c t) (columnOf m pick list (tree g under none) n c))
+        (subst (λ (l : ℕ). Agrees (listBody l (listRows (at m c .code) (at m c .len) l) t) (ownHook m cells list (tree g under none) n c t) (columnOf m pick list (tree g under none) n c))
         (sym (column-length m pick (g .shape) under (n + 1) child))
-        (subst (λ (rows : ℕ). Agrees (listBody (at m child .len) rows t) (ownHook m pick cells list (tree g under none) n c t) (columnOf m pick list (tree g under none) n c))
+        (subst (λ (rows : ℕ). Agrees (listBody (at m child .len) rows t) (ownHook m cells list (tree g under none) n c t) (columnOf m pick list (tree g under none) n c))
         (sym (rows-by (at m c .code) (at m c) (at m child .len) (keeps .cutting c)))
         list-body)))
 
@@ -266,7 +268,7 @@ module _ (m : Model) (pick : Pick) (cells : ℕ) where
     abbrev Live : ℕ → Type 0
     Live j = (j < at m keyed .len) × (null (at m keyed) j ≡ false)
 
-    module _ (whole : nullInSpans m pick cells c keyed ≡ false) where
+    module _ (whole : nullInSpans m c keyed ≡ false) where
       live-cut : (i : ℕ) → i < at m c .len → null (at m c) i ≡ false → All Live (spanSlots (at m c) i)
       live-cut i h e =
           let test : ℕ → Bool = λ i. not (null (at m c) i) && anyOf (λ j. null (at m keyed) j) (spanSlots (at m c) i) in
@@ -311,14 +313,14 @@ module _ (m : Model) (pick : Pick) (cells : ℕ) where
       map-cells = ap (λ k. 2 * k) (sum-ext _ _ (upto (at m c .len)) (all-upto _ (at m c .len) (λ i h. length-slot i (null (at m c) i) (pairs-slots i h))))
 
       map-takes : Agrees (taking m cells n c (at m c .len + pairCells (at m c) keys) (rowValues (at m c) (at m c .len) mapLiteral (entries (at m c) keys vals)) t)
-          (takes m pick cells n c (at m c .len + 2 * sum (λ i. cond (null (at m c) i) 0 (length (kept same (spanSlots (at m c) i)))) (upto (at m c .len))) t) (columnOf m pick map fields n c)
+          (takes cells n c (at m c .len + 2 * sum (λ i. cond (null (at m c) i) 0 (length (kept same (spanSlots (at m c) i)))) (upto (at m c .len))) t) (columnOf m pick map fields n c)
       map-takes =
           let vs : List Value = rowValues (at m c) (at m c .len) mapLiteral (entries (at m c) keys vals) in
-          agrees-as _ (takes m pick cells n c (at m c .len + 2 * sum (λ i. cond (null (at m c) i) 0 (length (kept same (spanSlots (at m c) i)))) (upto (at m c .len))) t) vs _ map-rows
-          (subst (λ (k : ℕ). Agrees (taking m cells n c (at m c .len + pairCells (at m c) keys) vs t) (takes m pick cells n c (at m c .len + k) t) vs) map-cells
+          agrees-as _ (takes cells n c (at m c .len + 2 * sum (λ i. cond (null (at m c) i) 0 (length (kept same (spanSlots (at m c) i)))) (upto (at m c .len))) t) vs _ map-rows
+          (subst (λ (k : ℕ). Agrees (taking m cells n c (at m c .len + pairCells (at m c) keys) vs t) (takes cells n c (at m c .len + k) t) vs) map-cells
           (agrees-taking m pick cells n c (at m c .len + pairCells (at m c) keys) t vs))
 
-    map-body : Agrees (close (converter m cells) map n c (keys ∷ (vals ∷ [])) t) (ownHook m pick cells map fields n c t) (columnOf m pick map fields n c)
+    map-body : Agrees (close (converter m cells) map n c (keys ∷ (vals ∷ [])) t) (ownHook m cells map fields n c t) (columnOf m pick map fields n c)
     map-body =
         agrees-sought m (mapOf (typeAt m n)) (g .required) n c _ t _ _ (ap mapOf ty) seen
         (agrees-pass (not (map? m c)) (fault 13 c n) _ t _ _ (not-from-true (map? m c) kind)
@@ -326,8 +328,8 @@ module _ (m : Model) (pick : Pick) (cells : ℕ) where
         (column-length m pick (f .shape) kb (n + 1) keyed ∙ (sym level ∙ sym (column-length m pick (g .shape) vb later valued)))))
         (agrees-pass (pastEnd (at m c) (at m c .len) (length keys)) (fault 20 c n) _ t _ _
         (ap (pastEnd (at m c) (at m c .len)) (column-length m pick (f .shape) kb (n + 1) keyed) ∙ none-past (at m c) (at m keyed .len) key-spans)
-        (agrees-retest (nullInSpan (at m c) (at m c .len) keys) (nullInSpans m pick cells c keyed) (fault 19 c n) _ t _ _ (null-holds (f .shape) kb (n + 1) c keyed key-spans) (λ whole.
-        agrees-retest (g .required && nullInSpan (at m c) (at m c .len) vals) (g .required && nullInSpans m pick cells c valued) (fault 16 c n) _ t _ _
+        (agrees-retest (nullInSpan (at m c) (at m c .len) keys) (nullInSpans m c keyed) (fault 19 c n) _ t _ _ (null-holds (f .shape) kb (n + 1) c keyed key-spans) (λ whole.
+        agrees-retest (g .required && nullInSpan (at m c) (at m c .len) vals) (g .required && nullInSpans m c valued) (fault 16 c n) _ t _ _
         (ap (λ (b : Bool). g .required && b) (null-holds (g .shape) vb later c valued value-spans)) (λ _.
         map-takes whole))))))
 
@@ -337,16 +339,16 @@ module _ (m : Model) (pick : Pick) (cells : ℕ) where
     value-target : target m pick cells map n c later ≡ valued
     value-target = ap (λ (b : Bool). getD (kids m c) (cond b 0 1) 0) (ne-eqb later (n + 1) (λ h. omega arith))
 
-    map-agrees : Agrees (close (converter m cells) map n c (results fields map n (n + 1) c) t) (ownHook m pick cells map fields n c t) (columnOf m pick map fields n c)
+    map-agrees : Agrees (close (converter m cells) map n c (results fields map n (n + 1) c) t) (ownHook m cells map fields n c t) (columnOf m pick map fields n c)
     map-agrees =
-        subst (λ (p : ℕ). Agrees (close (converter m cells) map n c (columnOf m pick (f .shape) kb (n + 1) p ∷ (columnOf m pick (g .shape) vb later (target m pick cells map n c later) ∷ [])) t) (ownHook m pick cells map fields n c t) (columnOf m pick map fields n c))
+        subst (λ (p : ℕ). Agrees (close (converter m cells) map n c (columnOf m pick (f .shape) kb (n + 1) p ∷ (columnOf m pick (g .shape) vb later (target m pick cells map n c later) ∷ [])) t) (ownHook m cells map fields n c t) (columnOf m pick map fields n c))
         (sym key-target)
-        (subst (λ (q : ℕ). Agrees (close (converter m cells) map n c (keys ∷ (columnOf m pick (g .shape) vb later q ∷ [])) t) (ownHook m pick cells map fields n c t) (columnOf m pick map fields n c))
+        (subst (λ (q : ℕ). Agrees (close (converter m cells) map n c (keys ∷ (columnOf m pick (g .shape) vb later q ∷ [])) t) (ownHook m cells map fields n c t) (columnOf m pick map fields n c))
         (sym value-target) map-body)
 
   -- the hook of any type, on the results of the fields that it holds
   pub close-agrees : Enough m → Filed m → Own m pick → (s : Shape) (below : Forest Field) (n c taken t : ℕ) → typeAt m n ≡ Some (s, below) → missing m c ≡ false → Exactly s below → Formed below
-      → checkFields m pick cells below s n (n + 1) c taken ≡ Ok t → Agrees (close (converter m cells) s n c (results below s n (n + 1) c) t) (ownHook m pick cells s below n c t) (columnOf m pick s below n c)
+      → checkFields m pick cells below s n (n + 1) c taken ≡ Ok t → Agrees (close (converter m cells) s n c (results below s n (n + 1) c) t) (ownHook m cells s below n c t) (columnOf m pick s below n c)
   close-agrees keeps filed mine (prim k) none n c taken t ty seen ex fo e = prim-agrees m pick cells k n c t ty seen
   close-agrees keeps filed mine (prim k) (tree f below rest) n c taken t ty seen ex fo e = absurd ex
   close-agrees keeps filed mine struct below n c taken t ty seen ex fo e = struct-agrees keeps mine below n c taken t ty seen e
@@ -385,7 +387,7 @@ module _ (m : Model) (pick : Pick) (cells : ℕ) where
         ap₂ bareBy mate-holder (column-length m pick (f .shape) below n mate ∙ mate-len)
         ∙ some-ext _ _ (upto (at m c .len)) (all-upto _ (at m c .len) bare-slot)
 
-    pub field-agrees : (t : ℕ) → fieldAt m n ≡ Some (f, below) → Agrees (fieldStep m cells n mate mated t) (fieldHook m pick cells struct f n c mate t) mated
+    pub field-agrees : (t : ℕ) → fieldAt m n ≡ Some (f, below) → Agrees (fieldStep m cells n mate mated t) (fieldHook m struct f n c mate t) mated
     field-agrees t e =
         agrees-sought m (requiredOf (fieldAt m n)) (f .required) n mate _ t _ _ (ap requiredOf e) (found-child m c mate (mine c n mate (kind .1)))
         (agrees-retest (f .required && nullRequired m cells mate mated) (f .required && anyOf (λ i. not (null (at m c) i) && null (at m mate) i) (upto (at m c .len))) (fault 15 mate n) _ t _ _
@@ -401,7 +403,7 @@ module _ (m : Model) (pick : Pick) (cells : ℕ) where
   -- what follows a field's type: `field` for a struct's field, and nothing for an element, a key or a value
   pub finish-agrees : Enough m → Own m pick → (s : Shape) (f : Field) (below : Forest Field) (up n c t : ℕ) → Kind m pick cells s c n → fieldAt m n ≡ Some (f, below)
       → Agrees (finish (converter m cells) (role s up n) n (target m pick cells s up c n) (columnOf m pick (f .shape) below n (target m pick cells s up c n)) t)
-      (fieldHook m pick cells s f n c (target m pick cells s up c n) t) (columnOf m pick (f .shape) below n (target m pick cells s up c n))
+      (fieldHook m s f n c (target m pick cells s up c n) t) (columnOf m pick (f .shape) below n (target m pick cells s up c n))
   finish-agrees keeps mine (prim k) f below up n c t kind e = absurd kind
   finish-agrees keeps mine struct f below up n c t kind e = field-agrees keeps mine f below c n kind t e
   finish-agrees keeps mine list f below up n c t kind e = refl

@@ -12,13 +12,16 @@ use Rattle.std.specs.declared.option.Option.{Option}
 use Rattle.std.proofs.shelf.Tests.{cases-bool, le-leb}
 use Rattle.meaning.specs.Model.{Model}
 use Rattle.meaning.specs.Access.{StepFault}
-use Rattle.meaning.specs.Reaches.{Reach, reached, nans, float?}
-use Rattle.meaning.specs.CounterLaw.{Call, Table, added, Answer, answer, sumOf, mentions, Reordered, done, skip, swap, trans, computes, answers, Sums-law, countOf, hasId, addReaches, floatAdditions, tableAfter, allAdditions, FewIds}
+use Rattle.meaning.specs.Codes.{float?}
+use Rattle.meaning.specs.Nans.{nans}
+use Rattle.meaning.specs.Reaches.{Reach, reached}
+use Rattle.meaning.specs.Table.{Table, added, countOf, hasId, Answer, answer, addReaches}
+use Rattle.meaning.specs.CounterLaw.{Call, sumOf, mentions, Reordered, done, skip, swap, trans, computes, answers, Sums-law, floatAdditions, tableAfter, allAdditions, FewIds}
 use Rattle.meaning.proofs.Tables.{alike-equal, length-new}
 use Rattle.meaning.proofs.Additions.{folded, folded-both, ascending-folded, length-folded, sum-folded, length-distinct, distinct-length, sumOf-both, mentions-both, sumOf-turn, mentions-turn}
 
 -- while the table has room for all that is to come, nothing is refused
-adding-all : (m : Model) (t : Table) (rs : List Reach) (e : Option StepFault) → length (folded t (floatAdditions m rs)) ≤ 256 → addReaches m t rs e ≡ (answer e, folded t (floatAdditions m rs))
+pub adding-all : (m : Model) (t : Table) (rs : List Reach) (e : Option StepFault) → length (folded t (floatAdditions m rs)) ≤ 256 → addReaches m t rs e ≡ (answer e, folded t (floatAdditions m rs))
 adding-all m t [] e h = refl
 adding-all m t (r ∷ rs) e h =
     elim (cases-bool (float? m (r .column))) [

@@ -6,24 +6,26 @@ use mathlib.Core.Bool.{true, false, cond}
 use Prim.Native.Nat.{ℕ, suc, _+_, _≤_}
 use native.Mathlib.Omega.{arith}
 use lib.IntN.{ℤ}
+use lib.Signed.{ltZ}
 use lib.ListN.{length}
 use Rattle.std.specs.declared.option.Option.{Option}
 use Rattle.std.specs.declared.option.Option.the-variants.{Some, None}
 use Rattle.std.proofs.shelf.Tests.{cases-bool}
 use Rattle.meaning.specs.Equal.{sameInteger}
-use Rattle.meaning.specs.CounterLaw.{Table, below, added, CountEntry, saturated, countOf, hasId}
+use Rattle.meaning.specs.Table.{CountEntry, Table, saturated, added, countOf, hasId}
+use lib.Signed.{ltZ}
 use Rattle.meaning.proofs.Ids.{same-self, same-eq, below-apart, below-on, below-else}
 
 -- every entry's id is above this one
 abbrev pub Above : ℤ → Table → Type 0
 Above id [] = Unit {0}
-Above id (e ∷ es) = (below id (e .id) ≡ true) × Above id es
+Above id (e ∷ es) = (ltZ id (e .id) ≡ true) × Above id es
 
 abbrev pub Ascending : Table → Type 0
 Ascending [] = Unit {0}
 Ascending (e ∷ es) = Above (e .id) es × Ascending es
 
-above-on : (a b : ℤ) (t : Table) → below a b ≡ true → Above b t → Above a t
+above-on : (a b : ℤ) (t : Table) → ltZ a b ≡ true → Above b t → Above a t
 above-on a b [] h k = tt
 above-on a b (e ∷ es) h k = (below-on a b (e .id) h (k .0), above-on a b es h (k .1))
 
@@ -33,12 +35,12 @@ above-none id [] k = refl
 above-none id (e ∷ es) k = rw (below-apart id (e .id) (k .0)) (above-none id es (k .1))
 
 -- an addition keeps the order
-above-added : (a : ℤ) (t : Table) (id : ℤ) (n : ℕ) → below a id ≡ true → Above a t → Above a (added t id n)
+above-added : (a : ℤ) (t : Table) (id : ℤ) (n : ℕ) → ltZ a id ≡ true → Above a t → Above a (added t id n)
 above-added a [] id n h k = (h, tt)
 above-added a (e ∷ es) id n h k =
     elim (cases-bool (sameInteger id (e .id))) [
       | inl s ↦ rw s (h, k .1)
-      | inr s ↦ elim (cases-bool (below id (e .id))) [
+      | inr s ↦ elim (cases-bool (ltZ id (e .id))) [
         | inl b ↦ rw (s, b) (h, k)
         | inr b ↦ rw (s, b) (k .0, above-added a es id n h (k .1))
       ]
@@ -49,7 +51,7 @@ ascending-added [] id n k = (tt, tt)
 ascending-added (e ∷ es) id n k =
     elim (cases-bool (sameInteger id (e .id))) [
       | inl s ↦ rw s (subst (λ (x : ℤ). Above x es) (sym (same-eq id (e .id) s)) (k .0), k .1)
-      | inr s ↦ elim (cases-bool (below id (e .id))) [
+      | inr s ↦ elim (cases-bool (ltZ id (e .id))) [
         | inl b ↦ rw (s, b) ((b, above-on id (e .id) es b (k .0)), k)
         | inr b ↦ rw (s, b) (above-added (e .id) es id n (below-else id (e .id) s b) (k .0), ascending-added es id n (k .1))
       ]
@@ -66,7 +68,7 @@ counted-added [] id n q k = refl
 counted-added (e ∷ es) id n q k =
     elim (cases-bool (sameInteger id (e .id))) [
       | inl s ↦ rw (s, ← (same-eq id (e .id) s)) (elim (cases-bool (sameInteger q id)) [ inl c ↦ rw c | inr c ↦ rw c ])
-      | inr s ↦ elim (cases-bool (below id (e .id))) [
+      | inr s ↦ elim (cases-bool (ltZ id (e .id))) [
         | inl b ↦ rw (s, b) (elim (cases-bool (sameInteger q id)) [ inl c ↦ rw (c, same-eq q id c, below-apart id (e .id) b, above-none id es (above-on id (e .id) es b (k .0))) | inr c ↦ rw c ])
         | inr b ↦ rw (s, b, counted-added es id n q (k .1)) (elim (cases-bool (sameInteger q id)) [ inl c ↦ rw (c, same-eq q id c, s) | inr c ↦ rw c ])
       ]
@@ -84,7 +86,7 @@ rest-counted : (e : CountEntry) (es : Table) (q : ℤ) → Ascending (e ∷ es) 
 rest-counted e es q k = elim (cases-bool (sameInteger q (e .id))) [ inl s ↦ rw (s, same-eq q (e .id) s, above-none (e .id) es (k .0)) | inr s ↦ rw s ]
 
 -- of two tables that count alike, no head is below the other's
-heads : (e f : CountEntry) (es fs : Table) → Ascending (f ∷ fs) → ((q : ℤ) → countOf (e ∷ es) q ≡ countOf (f ∷ fs) q) → below (e .id) (f .id) ≡ true → ⊥
+heads : (e f : CountEntry) (es fs : Table) → Ascending (f ∷ fs) → ((q : ℤ) → countOf (e ∷ es) q ≡ countOf (f ∷ fs) q) → ltZ (e .id) (f .id) ≡ true → ⊥
 heads e f es fs k alike b =
     let z : None ≡ Some (e .count) = sym (above-none (e .id) (f ∷ fs) (b, above-on (e .id) (f .id) fs b (k .0))) ∙ (sym (alike (e .id)) ∙ first-counted e es) in
     let w : _≡_ {A = ℕ} 0 1 = cc in omega arith
@@ -109,7 +111,7 @@ alike-equal (e ∷ es) (f ∷ fs) j k alike =
           let c : Some (e .count) ≡ Some (f .count) = sym (first-counted e es) ∙ (alike (e .id) ∙ (ap (countOf (f ∷ fs)) p ∙ first-counted f fs)) in
           let n : e .count ≡ f .count = cc in
           ap₂ (λ (x : CountEntry) (xs : Table). x ∷ xs) (entry e f p n) (alike-equal es fs (j .1) (k .1) (rests e f es fs j k p alike))
-      | inr s ↦ elim (cases-bool (below (e .id) (f .id))) [
+      | inr s ↦ elim (cases-bool (ltZ (e .id) (f .id))) [
         | inl b ↦ absurd (heads e f es fs k alike b)
         | inr b ↦ absurd (heads f e fs es j (λ q. sym (alike q)) (below-else (e .id) (f .id) s b))
       ]
@@ -121,7 +123,7 @@ length-added [] id n = omega arith
 length-added (e ∷ es) id n =
     elim (cases-bool (sameInteger id (e .id))) [
       | inl s ↦ rw s (omega arith)
-      | inr s ↦ elim (cases-bool (below id (e .id))) [
+      | inr s ↦ elim (cases-bool (ltZ id (e .id))) [
         | inl b ↦ rw (s, b) (omega arith)
         | inr b ↦ rw (s, b) (omega (arith, length-added es id n))
       ]
@@ -132,7 +134,7 @@ length-new [] id n h = refl
 length-new (e ∷ es) id n h =
     elim (cases-bool (sameInteger id (e .id))) [
       | inl s ↦ let z : true ≡ false = rw s at h in cc
-      | inr s ↦ elim (cases-bool (below id (e .id))) [
+      | inr s ↦ elim (cases-bool (ltZ id (e .id))) [
         | inl b ↦ rw (s, b) (omega arith)
         | inr b ↦ rw (s, b) (let ih = length-new es id n (rw s at h) in omega arith)
       ]

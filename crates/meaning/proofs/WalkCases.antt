@@ -10,11 +10,11 @@ use Rattle.std.specs.declared.result.Result.the-variants.{Ok, Err}
 use Rattle.meaning.specs.Forest.{none, tree}
 use Rattle.meaning.specs.Model.{Model, Column, Field, Shape, prim, struct, list, map, int, float, Code, words, structs, lists, fixedSizeLists, maps, int32, float32}
 use Rattle.meaning.specs.Access.{Pick, fault}
-use Rattle.meaning.specs.Rows.{Values, sameKey, nullLiteral, intLiteral, floatLiteral, structLiteral, listLiteral, mapLiteral, primitiveLiteral}
+use Rattle.meaning.specs.Literals.{nullLiteral, intLiteral, floatLiteral, structLiteral, listLiteral, mapLiteral, Values, primitiveLiteral, sameKey}
 use Rattle.meaning.specs.Converts.{converts}
 use Rattle.meaning.specs.Reaches.{reached}
 use Rattle.meaning.specs.Converter.{Value, fieldStep, primitiveStep, structStep, listStep, mapStep, conversion, sameLiteral}
-use Rattle.meaning.specs.CounterLaw.{Table}
+use Rattle.meaning.specs.Table.{Table}
 use Rattle.meaning.specs.Counter.{computeWalk}
 
 abbrev field : ℕ → Bool → Shape → Field

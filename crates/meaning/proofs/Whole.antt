@@ -7,7 +7,8 @@ use native.Mathlib.Numerals.{add-one}
 use lib.ListN.{length, getD}
 use Rattle.meaning.specs.Forest.{Forest, none, tree, count}
 use Rattle.meaning.specs.Model.{Model, Field, Column, Shape, prim, struct, list, map, Code, bits, words, variable, fixedSizeBinary, structs, lists, largeLists, fixedSizeLists, maps}
-use Rattle.meaning.specs.Keeps.{Keeps, FieldsKeep, ColumnsKeep, Lengths, Rising, Cuts, Within, Bodied, firstLength, KeyFirst, Plain as Primitive-only, Holds as Held, Bytes as AllBytes}
+use Rattle.meaning.specs.Columns.{firstLen}
+use Rattle.meaning.specs.Keeps.{Keeps, FieldsKeep, ColumnsKeep, Lengths, Rising, Cuts, Within, Bodied, KeyFirst, Plain as Primitive-only, Holds as Held, Bytes as AllBytes}
 use Rattle.meaning.proofs.Enough.{Plain, Holds, Shaped, Ascends}
 use Rattle.meaning.proofs.Trees.{Long, Below, Sound, Rules}
 use Rattle.meaning.proofs.Formed.{Exactly, Formed, Bytes, Stored}
@@ -45,7 +46,7 @@ one-fixed : (s : ℕ) (x : Column) (kids : Forest Column) → count kids ≡ 1 �
 one-fixed s x none n h = absurd (omega arith)
 one-fixed s x (tree y ks rest) n h = sym (h .0)
 
-two-maps : (x : Column) (kids : Forest Column) → Cuts 4 x → count kids ≡ 2 → Lengths (Within (x .offsets)) kids → Lengths (λ k. k ≡ firstLength kids) kids → Below maps x kids
+two-maps : (x : Column) (kids : Forest Column) → Cuts 4 x → count kids ≡ 2 → Lengths (Within (x .offsets)) kids → Lengths (λ k. k ≡ firstLen kids) kids → Below maps x kids
 two-maps x none c n h e = absurd (omega arith)
 two-maps x (tree y ks none) c n h e = absurd (omega arith)
 two-maps x (tree y ks (tree z ls rest)) c n h e = (ascends 4 x (y .len) c (h .0), e .1 .0)

@@ -13,9 +13,11 @@ use Rattle.meaning.specs.Forest.{Forest, none, tree, size}
 use Rattle.meaning.specs.Model.{Model, Column, Field, Shape, prim, struct, list, map, Primitive, Code, bits, words, variable, fixedSizeBinary, structs, lists, largeLists, fixedSizeLists, maps, at}
 use Rattle.meaning.specs.Lists.{upto, anyOf, sum}
 use Rattle.meaning.specs.Slots.{null, span, spanSlots}
-use Rattle.meaning.specs.Access.{Pick, Own, StepFault, fault, struct?, list?, map?}
+use Rattle.meaning.specs.Codes.{struct?, list?, map?}
+use Rattle.meaning.specs.Access.{Pick, Own, StepFault, fault}
 use Rattle.meaning.specs.Equal.{sameInteger, sameBytes, sameBoolean}
-use Rattle.meaning.specs.Rows.{Values, joined, kept, same32, same64, rows, Literal, nullLiteral, booleanLiteral, intLiteral, longLiteral, floatLiteral, doubleLiteral, bytesLiteral, structLiteral, listLiteral, mapLiteral, literalAt}
+use Rattle.meaning.specs.Literals.{Literal, nullLiteral, booleanLiteral, intLiteral, longLiteral, floatLiteral, doubleLiteral, bytesLiteral, structLiteral, listLiteral, mapLiteral, Values, literalAt, same32, same64}
+use Rattle.meaning.specs.Rows.{joined, kept, rows}
 use Rattle.meaning.specs.Converts.{accepts, converts, firstRequired, afterFirst}
 use Rattle.meaning.specs.Keeps.{Keeps}
 use Rattle.meaning.specs.Walk.{Step, ret, refuse, Hooks, fieldAt, typeAt, missing, visitStruct}

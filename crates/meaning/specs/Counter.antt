@@ -1,18 +1,18 @@
 -- The counter's hooks: each after hook adds a float column's NaNs under the field's id.
 use mathlib.Core.Path.{_≡_}
-use mathlib.Core.Bool.{true, cond}
-use Prim.Native.Nat.{ℕ, _+_}
-use lib.Dec.{leb}
+use mathlib.Core.Bool.{cond}
+use Prim.Native.Nat.{ℕ}
 use lib.IntN.{ℤ}
-use lib.ListN.{length}
 use Rattle.std.specs.declared.option.Option.{Option}
 use Rattle.std.specs.declared.option.Option.the-variants.{Some, None}
 use Rattle.std.specs.declared.result.Result.the-variants.{Ok, Err}
 use Rattle.meaning.specs.Forest.{Forest}
 use Rattle.meaning.specs.Model.{Model, Field}
 use Rattle.meaning.specs.Access.{Pick, Own, fault}
-use Rattle.meaning.specs.Reaches.{float?, nans, reached}
-use Rattle.meaning.specs.CounterLaw.{Table, Answer, added, hasId, addReaches}
+use Rattle.meaning.specs.Codes.{float?}
+use Rattle.meaning.specs.Nans.{nans}
+use Rattle.meaning.specs.Reaches.{reached}
+use Rattle.meaning.specs.Table.{hasRoom, Table, added, Answer, addReaches}
 use Rattle.meaning.specs.Keeps.{Keeps}
 use Rattle.meaning.specs.Walk.{Step, ret, refuse, Hooks, fieldAt, missing, visitStruct}
 use Rattle.meaning.specs.Converter.{refuseIf}
@@ -21,7 +21,7 @@ use Rattle.meaning.specs.Converter.{refuseIf}
 abbrev pub countReach : Model → ℤ → ℕ → ℕ → Step Table (Unit {0})
 countReach m id n c t =
     cond (float? m c)
-    (cond (cond (hasId t id) true (leb (length t + 1) 256)) (Ok tt, added t id (nans m c)) (Err (fault 22 c n), t))
+    (cond (hasRoom t id) (Ok tt, added t id (nans m c)) (Err (fault 22 c n), t))
     (Ok tt, t)
 
 -- no such field or column is refused first

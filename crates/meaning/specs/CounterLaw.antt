@@ -1,94 +1,72 @@
--- The law of the counter: sums over calls in any order, and rows plus hidden slots.
+-- The law of the counter: counts are sums over calls in any order, and what a batch's rows show and hide.
 use mathlib.Core.Path.{_≡_}
 use mathlib.Core.List.{List, [], _∷_, _++_, map as each}
-use mathlib.Core.Bool.{Bool, true, false, cond}
-use Prim.Native.Nat.{ℕ, _+_, _-_, _^_, _≤_, min}
-use lib.Dec.{leb}
-use lib.IntN.{ℤ, pos, negsuc}
-use lib.ListN.{length}
-use Rattle.std.specs.declared.option.Option.{Option}
+use mathlib.Core.Bool.{Bool, cond}
+use Prim.Native.Nat.{ℕ, _+_, _≤_}
+use lib.IntN.{ℤ}
 use Rattle.std.specs.declared.option.Option.the-variants.{Some, None}
-use Rattle.std.specs.declared.result.Result.{Result}
-use Rattle.std.specs.declared.result.Result.the-variants.{Ok, Err}
+use Rattle.std.specs.declared.result.Result.the-variants.{Ok}
+use Rattle.meaning.specs.Lists.{anyOf, sum, orZero}
+use Rattle.meaning.specs.Equal.{sameInteger}
 use Rattle.meaning.specs.Forest.{none, tree}
 use Rattle.meaning.specs.Model.{Model, struct}
 use Rattle.meaning.specs.Keeps.{Keeps}
-use Rattle.meaning.specs.Access.{Pick, Own, StepFault, fault}
-use Rattle.meaning.specs.Rows.{Values, rows}
+use Rattle.meaning.specs.Access.{Pick, Own}
+use Rattle.meaning.specs.Literals.{Values}
+use Rattle.meaning.specs.Rows.{rows}
 use Rattle.meaning.specs.Converts.{converts}
-use Rattle.meaning.specs.Equal.{sameInteger}
-use Rattle.meaning.specs.Reaches.{Reach, reached, nans, hiddenNans, float?, nansIn}
-use Rattle.meaning.specs.Lists.{orZero}
+use Rattle.meaning.specs.Codes.{float?}
+use Rattle.meaning.specs.Reaches.{Reach, reached}
+use Rattle.meaning.specs.Nans.{nans, hiddenNans, nansIn}
+use Rattle.meaning.specs.Table.{Table, saturated, countOf, Answer, answer, addReaches}
 
--- one `compute`: a batch that keeps the file's rules, and an accessor by its pick
+-- one call of `compute`: a batch that keeps the rules, and an accessor by its pick
 pub record Call : Type 0 where
   pub model : Model
   pub keeps : Keeps model
   pub pick : Pick
   pub own : Own model pick
 
-pub record CountEntry : Type 0 where
-  pub id : ℤ
-  pub count : ℕ
+-- what the call answers, and the table it leaves of the one it is given
+abbrev pub computes : Call → Table → Answer × Table
+computes c t = addReaches (c .model) t (reached (c .model) (c .pick) .0) (reached (c .model) (c .pick) .1)
 
-abbrev pub Table : Type 0
-Table = List CountEntry
+-- the table after calls one after another, each on the table left by the one before
+abbrev pub tableAfter : List Call → Table → Table
+tableAfter [] t = t
+tableAfter (c ∷ cs) t = tableAfter cs (computes c t .1)
 
-abbrev pub below : ℤ → ℤ → Bool
-below (pos a) (pos b) = leb (a + 1) b
-below (pos a) (negsuc b) = false
-below (negsuc a) (pos b) = true
-below (negsuc a) (negsuc b) = leb (b + 1) a
+-- each call with its answer
+abbrev pub answers : List Call → Table → List (Call × Answer)
+answers [] t = []
+answers (c ∷ cs) t = (c, computes c t .0) ∷ answers cs (computes c t .1)
 
-abbrev pub saturated : ℕ → ℕ
-saturated n = min n (2 ^ 64 - 1)
-
--- an id's entry, in its ascending place
-abbrev pub added : Table → ℤ → ℕ → Table
-added [] id n = record { id = id; count = saturated n } ∷ []
-added (e ∷ es) id n =
-    cond (sameInteger id (e .id)) (record { id = id; count = saturated (e .count + n) } ∷ es)
-    (cond (below id (e .id)) (record { id = id; count = saturated n } ∷ (e ∷ es)) (e ∷ added es id n))
-
-abbrev pub countOf : Table → ℤ → Option ℕ
-countOf [] id = None
-countOf (e ∷ es) id = cond (sameInteger id (e .id)) (Some (e .count)) (countOf es id)
-
-abbrev pub hasId : Table → ℤ → Bool
-hasId [] id = false
-hasId (e ∷ es) id = cond (sameInteger id (e .id)) true (hasId es id)
-
-abbrev pub Answer : Type 0
-Answer = Result (Unit {0}) StepFault
-
-abbrev pub answer : Option StepFault → Answer
-answer None = Ok tt
-answer (Some e) = Err e
-
--- reach by reach; a 257th id is refused, and what was added stays
-abbrev pub addReaches : Model → Table → List Reach → Option StepFault → Answer × Table
-addReaches m t [] e = (answer e, t)
-addReaches m t (r ∷ rs) e =
-    cond (float? m (r .column))
-    (cond (cond (hasId t (r .id)) true (leb (length t + 1) 256)) (addReaches m (added t (r .id) (nans m (r .column))) rs e) (Err (fault 22 (r .column) (r .field)), t))
-    (addReaches m t rs e)
-
--- the float columns reached, with what each adds
+-- the float columns reached: for each reach the field's id and the column's NaNs
 abbrev pub floatAdditions : Model → List Reach → List (ℤ × ℕ)
 floatAdditions m [] = []
 floatAdditions m (r ∷ rs) = cond (float? m (r .column)) ((r .id, nans m (r .column)) ∷ floatAdditions m rs) (floatAdditions m rs)
 
+-- those of all calls
+abbrev pub allAdditions : List Call → List (ℤ × ℕ)
+allAdditions [] = []
+allAdditions (c ∷ cs) = floatAdditions (c .model) (reached (c .model) (c .pick) .0) ++ allAdditions cs
+
+-- the sum under an id
 abbrev pub sumOf : ℤ → List (ℤ × ℕ) → ℕ
-sumOf id [] = 0
-sumOf id (x ∷ xs) = cond (sameInteger id (x .0)) (x .1) 0 + sumOf id xs
+sumOf id xs = sum (λ (x : ℤ × ℕ). cond (sameInteger id (x .0)) (x .1) 0) xs
 
+-- whether a float column is reached under an id
 abbrev pub mentions : ℤ → List (ℤ × ℕ) → Bool
-mentions id [] = false
-mentions id (x ∷ xs) = cond (sameInteger id (x .0)) true (mentions id xs)
+mentions id xs = anyOf (λ (x : ℤ × ℕ). sameInteger id (x .0)) xs
 
+-- how many ids there are, each counted once
 abbrev pub distinctIds : List (ℤ × ℕ) → ℕ
 distinctIds [] = 0
 distinctIds (x ∷ xs) = cond (mentions (x .0) xs) 0 1 + distinctIds xs
+
+-- the calls together reach float columns under at most 256 ids
+abbrev pub FewIds : List Call → Type 0
+FewIds cs = distinctIds (allAdditions cs) ≤ 256
 
 -- the same list in another order
 pub data Reordered {X : Type 0} : List X → List X → Type 0 where
@@ -97,42 +75,31 @@ pub data Reordered {X : Type 0} : List X → List X → Type 0 where
   swap : {x y : X} {xs : List X} → Reordered (x ∷ (y ∷ xs)) (y ∷ (x ∷ xs))
   trans : {xs ys zs : List X} → Reordered xs ys → Reordered ys zs → Reordered xs zs
 
-abbrev pub computes : Call → Table → Answer × Table
-computes c t = addReaches (c .model) t (reached (c .model) (c .pick) .0) (reached (c .model) (c .pick) .1)
-
-abbrev pub tableAfter : List Call → Table → Table
-tableAfter [] t = t
-tableAfter (c ∷ cs) t = tableAfter cs (computes c t .1)
-
--- what the float columns reached add, call by call
-abbrev pub allAdditions : List Call → List (ℤ × ℕ)
-allAdditions [] = []
-allAdditions (c ∷ cs) = floatAdditions (c .model) (reached (c .model) (c .pick) .0) ++ allAdditions cs
-
-abbrev pub FewIds : List Call → Type 0
-FewIds cs = distinctIds (allAdditions cs) ≤ 256
-
-abbrev pub answers : List Call → Table → List (Call × Answer)
-answers [] t = []
-answers (c ∷ cs) t = (c, computes c t .0) ∷ answers cs (computes c t .1)
-
--- for calls that reach at most 256 ids together: every count is a sum, another order gives the same table, and each call is answered by itself.
--- `few`: the calls reach as many ids in another order, so `sum` and `alone` hold of that order too
+-- A new counter is given calls that together reach at most 256 ids.
 pub record Sums-law : Type 0 where
+  -- the count under an id is the sum over the calls of the NaNs in the float columns reached under it, held at 2^64 - 1;
+  -- it is absent exactly if no float column was reached under it
   pub sum : (cs : List Call) → FewIds cs → (id : ℤ) → countOf (tableAfter cs []) id ≡ cond (mentions id (allAdditions cs)) (Some (saturated (sumOf id (allAdditions cs)))) None
+  -- the calls in another order leave the same table, entry by entry
   pub table : (cs ds : List Call) → FewIds cs → Reordered cs ds → tableAfter cs [] ≡ tableAfter ds []
+  -- each call answers what its own batch and pick say, whichever calls came before it
   pub alone : (cs : List Call) → FewIds cs → answers cs [] ≡ each (λ c. (c, answer (reached (c .model) (c .pick) .1))) cs
+  -- in another order the calls reach at most 256 ids too, so all of this holds of that order
   pub few : (cs ds : List Call) → FewIds cs → Reordered cs ds → FewIds ds
 
+-- the NaNs at hidden slots, over the reaches under an id
 abbrev pub hiddenNansOf : Call → ℤ → List Reach → ℕ
-hiddenNansOf c id [] = 0
-hiddenNansOf c id (r ∷ rs) = cond (sameInteger id (r .id)) (hiddenNans (c .model) r) 0 + hiddenNansOf c id rs
+hiddenNansOf c id rs = sum (λ r. cond (sameInteger id (r .id)) (hiddenNans (c .model) r) 0) rs
 
+-- the NaNs in the rows, one for each place that stands for a field of this id
 abbrev pub rowNans : ℤ → Call → Values → ℕ
 rowNans id c none = 0
 rowNans id c (tree x ps rest) = nansIn id (c .model .fields) struct ps + rowNans id c rest
 
+-- Conversion of the schema's struct at column 0 accepts the batch, with however many cells.
 pub record Rows-law : Type 0 where
+  -- then a new counter accepts it through the same accessor
   pub accepted : (c : Call) (cells taken : ℕ) → converts (c .model) (c .pick) cells ≡ Ok taken → computes c [] .0 ≡ Ok tt
+  -- and under every id its count is the NaNs in the rows and the NaNs at hidden slots
   pub conserved : (c : Call) (cells taken : ℕ) → converts (c .model) (c .pick) cells ≡ Ok taken → (id : ℤ)
       → orZero (countOf (computes c [] .1) id) ≡ rowNans id c (rows (c .model) (c .pick)) + hiddenNansOf c id (reached (c .model) (c .pick) .0)

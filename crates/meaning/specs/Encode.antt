@@ -7,8 +7,10 @@ use lib.IntN.{ℤ, pos, negsuc}
 use lib.ListN.{length}
 use Rattle.std.specs.declared.option.Option.{Option}
 use Rattle.std.specs.declared.option.Option.the-variants.{Some, None}
+use Rattle.meaning.specs.Codes.{codeNumber, codeDetail}
+use Rattle.meaning.specs.Columns.{offsetOf}
 use Rattle.meaning.specs.Forest.{Forest, none, tree, count}
-use Rattle.meaning.specs.Model.{Model, Field, Column, Shape, prim, struct, list, map, Primitive, boolean, int, long, float, double, date, time, timestamp, timestamptz, timestampNs, timestamptzNs, string, uuid, fixed, binary, Code, Variable, bits, words, variable, fixedSizeBinary, structs, lists, largeLists, fixedSizeLists, maps, int32, int64, float32, float64, date32, time64, micros, nanos, utf8, largeUtf8, binaries, largeBinary}
+use Rattle.meaning.specs.Model.{Model, Field, Column, Shape, prim, struct, list, map, Primitive, boolean, int, long, float, double, date, time, timestamp, timestamptz, timestampNs, timestamptzNs, string, uuid, fixed, binary, Code, bits, words, variable, fixedSizeBinary, structs, lists, largeLists, fixedSizeLists, maps}
 
 -- groups of seven bits, lowest first, in the shortest form
 abbrev pub groups : ℕ → ℕ → List ℕ
@@ -67,42 +69,24 @@ fieldBytes none = []
 fieldBytes (tree f below rest) =
     fixedWidth 4 (unsigned (f .id)) ++ flag (f .required) ++ text (f .name) ++ shapeCode (f .shape) (count below) ++ fieldBytes below ++ fieldBytes rest
 
+-- what stands behind a column code
+abbrev pub detailBytes : Option ℕ → List ℕ
+detailBytes None = []
+detailBytes (Some d) = numeral d
+
+-- a column's code, and its width or size
 abbrev pub columnCode : Code → List ℕ
-columnCode bits = 1 ∷ []
-columnCode (words int32) = 2 ∷ []
-columnCode (words int64) = 3 ∷ []
-columnCode (words float32) = 4 ∷ []
-columnCode (words float64) = 5 ∷ []
-columnCode (words date32) = 7 ∷ []
-columnCode (words time64) = 8 ∷ []
-columnCode (words micros) = 9 ∷ []
-columnCode (words nanos) = 10 ∷ []
-columnCode (variable utf8) = 11 ∷ []
-columnCode (variable largeUtf8) = 12 ∷ []
-columnCode (fixedSizeBinary w) = 13 ∷ numeral w
-columnCode (variable binaries) = 14 ∷ []
-columnCode (variable largeBinary) = 15 ∷ []
-columnCode structs = 16 ∷ []
-columnCode lists = 17 ∷ []
-columnCode largeLists = 18 ∷ []
-columnCode (fixedSizeLists s) = 19 ∷ numeral s
-columnCode maps = 20 ∷ []
+columnCode k = codeNumber k ∷ detailBytes (codeDetail k)
 
 abbrev pub offsets : ℕ → List ℕ → List ℕ
 offsets w [] = []
 offsets w (o ∷ os) = fixedWidth w o ++ offsets w os
 
-abbrev pub wideOffsets : Variable → ℕ
-wideOffsets utf8 = 4
-wideOffsets largeUtf8 = 8
-wideOffsets binaries = 4
-wideOffsets largeBinary = 8
-
 -- the body before the columns below it
 abbrev pub bodyBytes : Code → Column → ℕ → List ℕ
 bodyBytes bits x n = x .body
 bodyBytes (words w) x n = x .body
-bodyBytes (variable t) x n = offsets (wideOffsets t) (x .offsets) ++ text (x .body)
+bodyBytes (variable t) x n = offsets (offsetOf t) (x .offsets) ++ text (x .body)
 bodyBytes (fixedSizeBinary w) x n = x .body
 bodyBytes structs x n = numeral n
 bodyBytes lists x n = offsets 4 (x .offsets)

@@ -9,7 +9,7 @@ use Rattle.std.specs.declared.option.Option.the-variants.{Some, None}
 use Rattle.std.specs.shelf.Lists.{All}
 use Rattle.meaning.specs.Forest.{Forest, none, tree, size, count}
 use Rattle.meaning.specs.Model.{Model, Field, Column, Shape, prim, struct, list, map, Primitive, boolean, int, long, float, double, date, time, timestamp, timestamptz, timestampNs, timestamptzNs, string, uuid, fixed, binary, Code, bits, words, variable, fixedSizeBinary, structs, lists, largeLists, fixedSizeLists, maps}
-use Rattle.meaning.specs.Columns.{widthOf, offsetOf}
+use Rattle.meaning.specs.Columns.{widthOf, offsetOf, firstLen}
 use Rattle.meaning.specs.Encode.{encode}
 
 -- how many levels a forest has
@@ -76,11 +76,6 @@ abbrev pub Lengths : (ℕ → Type 0) → Forest Column → Type 0
 Lengths P none = Unit {0}
 Lengths P (tree x below rest) = P (x .len) × Lengths P rest
 
--- the length of a map's key column
-abbrev pub firstLength : Forest Column → ℕ
-firstLength none = 0
-firstLength (tree x below rest) = x .len
-
 -- none is below the one before it, the first not below `last`; all are below `top`
 abbrev pub Rising : ℕ → ℕ → List ℕ → Type 0
 Rising top last [] = Unit {0}
@@ -110,7 +105,7 @@ Bodied largeLists x below = Cuts 8 x × (x .body ≡ []) × (count below ≡ 1) 
 Bodied (fixedSizeLists s) x below =
     (1 ≤ s) × (s ≤ 65536) × (x .offsets ≡ []) × (x .body ≡ []) × (count below ≡ 1) × Lengths (λ k. k / s ≡ x .len) below
 Bodied maps x below =
-    Cuts 4 x × (x .body ≡ []) × (count below ≡ 2) × Lengths (Within (x .offsets)) below × Lengths (λ k. k ≡ firstLength below) below
+    Cuts 4 x × (x .body ≡ []) × (count below ≡ 2) × Lengths (Within (x .offsets)) below × Lengths (λ k. k ≡ firstLen below) below
 
 -- what is there keeps a rule
 abbrev pub Optional : (List ℕ → Type 0) → Option (List ℕ) → Type 0

@@ -2,6 +2,7 @@ pub mod Forest
 pub mod Model
 pub mod Lists
 pub mod Equal
+pub mod Codes
 pub mod Items
 pub mod Schema
 pub mod Columns
@@ -12,9 +13,12 @@ pub mod Accepts
 pub mod Slots
 pub mod Access
 pub mod Picks
+pub mod Literals
 pub mod Rows
 pub mod Converts
 pub mod Reaches
+pub mod Nans
+pub mod Table
 pub mod CounterLaw
 pub mod Walk
 pub mod Converter

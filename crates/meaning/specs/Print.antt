@@ -11,10 +11,11 @@ use Rattle.meaning.specs.Items.{BatchFault}
 use Rattle.meaning.specs.Text.{decimal, integer, hex, bytes, batchFaultLine, stepFaultLine}
 use Rattle.meaning.specs.File.{decode}
 use Rattle.meaning.specs.Access.{Pick, StepFault}
-use Rattle.meaning.specs.Rows.{Values, rows, Literal, nullLiteral, booleanLiteral, intLiteral, longLiteral, floatLiteral, doubleLiteral, bytesLiteral, structLiteral, listLiteral, mapLiteral}
+use Rattle.meaning.specs.Literals.{Literal, nullLiteral, booleanLiteral, intLiteral, longLiteral, floatLiteral, doubleLiteral, bytesLiteral, structLiteral, listLiteral, mapLiteral, Values}
+use Rattle.meaning.specs.Rows.{rows}
 use Rattle.meaning.specs.Converts.{converts}
 use Rattle.meaning.specs.Reaches.{reached}
-use Rattle.meaning.specs.CounterLaw.{Table, addReaches}
+use Rattle.meaning.specs.Table.{Table, addReaches}
 
 -- what stands between two parts: at the first nothing, in a map a colon before each value, else a comma
 abbrev between : Bool → Bool → Bool → List ℕ
