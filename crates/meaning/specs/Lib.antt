@@ -25,3 +25,5 @@ pub mod Converter
 pub mod Counter
 pub mod Text
 pub mod Print
+pub mod Samples
+pub mod WorkedCases

@@ -1,3 +1,4 @@
+ghost use Rattle.meaning.specs.WorkedCases.{Worked-cases};
 ghost use Rattle.meaning.specs.Access.{Own};
 ghost use Rattle.meaning.specs.Converter.{Converted-law};
 ghost use Rattle.meaning.specs.Picks.{byId, byName};
@@ -45,6 +46,13 @@ pub fn counter_stands() -> u8
 pub fn picks_stand() -> u8
     ensures ids { λ _. ⌜ ((m : Model) → Own m (byId m)) ⌝ }
     ensures names { λ _. ⌜ ((m : Model) → Own m (byName m)) ⌝ }
+{
+    0
+}
+
+// The worked cases: small inputs, each with what the definitions say of it.
+pub fn worked_cases_stand() -> u8
+    ensures { λ _. ⌜ Worked-cases ⌝ }
 {
     0
 }
