@@ -12,7 +12,8 @@ use Rattle.meaning.specs.Converts.{converts}
 use Rattle.meaning.proofs.Enough.{Enough}
 use Rattle.meaning.proofs.Formed.{Filed}
 use Rattle.meaning.specs.Walk.{Hooks, visitStruct}
-use Rattle.meaning.specs.Converter.{Value, listed, converter, conversion}
+use Rattle.meaning.specs.Literals.{Value}
+use Rattle.meaning.specs.Converter.{listed, converter, conversion}
 use Rattle.meaning.proofs.Alongside.{Ties, Both, Alongside}
 use Rattle.meaning.proofs.Converting.{converted}
 use Rattle.meaning.proofs.Beside.{both-struct}

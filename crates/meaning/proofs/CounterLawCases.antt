@@ -12,6 +12,7 @@ use Rattle.meaning.specs.Forest.{none, tree}
 use Rattle.meaning.specs.Model.{Model, prim, float, words, float32}
 use Rattle.meaning.specs.Keeps.{Keeps, InRange}
 use Rattle.meaning.specs.Lists.{among}
+use Rattle.meaning.specs.Samples.{sampleField, sampleColumn}
 use Rattle.meaning.specs.Access.{Pick, Own, fault, kids}
 use Rattle.meaning.specs.Table.{countOf}
 use Rattle.meaning.specs.CounterLaw.{Call, computes, tableAfter, FewIds}
@@ -20,8 +21,8 @@ use Rattle.meaning.specs.CounterLaw.{Call, computes, tableAfter, FewIds}
 abbrev small : ℤ → Model
 small id = record {
   rows = 2;
-  fields = tree (record { id = id; required = false; name = []; shape = prim float }) none none;
-  columns = tree (record { name = []; idText = None; code = words float32; len = 2; validity = None; offsets = []; body = 0 ∷ 0 ∷ 0xc0 ∷ 0x7f ∷ 0 ∷ 0 ∷ 0 ∷ 0 ∷ [] }) none none;
+  fields = tree (sampleField id false (prim float)) none none;
+  columns = tree (sampleColumn None (words float32) 2 None [] (0 ∷ 0 ∷ 0xc0 ∷ 0x7f ∷ 0 ∷ 0 ∷ 0 ∷ 0 ∷ [])) none none;
 }
 
 -- the batch's first column, for field 1 alone

@@ -9,6 +9,7 @@ use Rattle.std.specs.declared.option.Option.the-variants.{Some, None}
 use Rattle.meaning.specs.Forest.{none, tree}
 use Rattle.meaning.specs.Model.{Model, Field, Shape, prim, map, struct, long, string, Column, Code, maps, words, int64, variable, utf8}
 use Rattle.std.specs.declared.result.Result.the-variants.{Ok}
+use Rattle.meaning.specs.Samples.{sampleColumn}
 use Rattle.meaning.specs.File.{decode}
 use Rattle.meaning.specs.Encode.{encode}
 use Rattle.meaning.specs.Keeps.{ColumnsKeep, Keeps}
@@ -17,7 +18,7 @@ abbrev a-field : ℤ → Shape → Field
 a-field id s = record { id = id; required = true; name = 107 ∷ []; shape = s }
 
 abbrev a-column : Code → ℕ → List ℕ → List ℕ → Column
-a-column c len os bs = record { name = []; idText = None; code = c; len = len; validity = Some (1 ∷ []); offsets = os; body = bs }
+a-column c len os bs = sampleColumn None c len (Some (1 ∷ [])) os bs
 
 -- one row, a map from Long to String with two entries; the key's type, the offsets of the map and the value's length are open
 abbrev a-map : Shape → List ℕ → ℕ → Model

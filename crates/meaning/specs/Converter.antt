@@ -16,15 +16,11 @@ use Rattle.meaning.specs.Slots.{null, span, spanSlots}
 use Rattle.meaning.specs.Codes.{struct?, list?, map?}
 use Rattle.meaning.specs.Access.{Pick, Own, StepFault, fault}
 use Rattle.meaning.specs.Equal.{sameInteger, sameBytes, sameBoolean}
-use Rattle.meaning.specs.Literals.{Literal, nullLiteral, booleanLiteral, intLiteral, longLiteral, floatLiteral, doubleLiteral, bytesLiteral, structLiteral, listLiteral, mapLiteral, Values, literalAt, same32, same64}
+use Rattle.meaning.specs.Literals.{Literal, nullLiteral, booleanLiteral, intLiteral, longLiteral, floatLiteral, doubleLiteral, bytesLiteral, structLiteral, listLiteral, mapLiteral, Values, literalAt, same32, same64, Value}
 use Rattle.meaning.specs.Rows.{joined, kept, rows}
 use Rattle.meaning.specs.Converts.{accepts, converts, firstRequired, afterFirst}
 use Rattle.meaning.specs.Keeps.{Keeps}
 use Rattle.meaning.specs.Walk.{Step, ret, refuse, Hooks, fieldAt, typeAt, missing, visitStruct}
-
--- a value whole: its item, and its parts, which stand below it
-abbrev pub Value : Type 0
-Value = Literal × Values
 
 abbrev pub isNullLiteral : Literal → Bool
 isNullLiteral nullLiteral = true

@@ -29,6 +29,10 @@ pub data Literal : Type 0 where
 abbrev pub Values : Type 0
 Values = Forest Literal
 
+-- a value whole: its literal, and its parts
+abbrev pub Value : Type 0
+Value = Literal × Values
+
 -- the bytes of slot i of a text, binary or fixed-size binary column
 abbrev pub bytesAt : Column → ℕ → List ℕ
 bytesAt x i = take (span x i .1 - span x i .0) (drop (span x i .0) (x .body))

@@ -9,7 +9,7 @@ use Rattle.std.specs.declared.option.Option.the-variants.{Some, None}
 use Rattle.meaning.specs.Forest.{none, tree}
 use Rattle.meaning.specs.Model.{Model, Field, Column, Shape, prim, struct, list, map, int, Code, words, int32, structs, lists, maps}
 use Rattle.meaning.specs.Encode.{fixedWidth}
-use Rattle.meaning.specs.Literals.{Literal, nullLiteral, intLiteral, structLiteral, listLiteral, mapLiteral, Values}
+use Rattle.meaning.specs.Literals.{nullLiteral, intLiteral, structLiteral, listLiteral, mapLiteral, Values, Value}
 
 -- a field of this id, required or not, of this shape
 abbrev pub sampleField : ℤ → Bool → Shape → Field
@@ -76,10 +76,6 @@ besideSample = record {
   fields = tree (sampleField (pos 1) false (prim int)) none (tree (sampleField (pos 2) false struct) none none);
   columns = tree (sampleColumn (Some (codes "1")) (words int32) 3 None [] (intBytes (1 ∷ 2 ∷ 3 ∷ []))) none (tree (sampleColumn (Some (codes "2")) structs 3 None [] []) none none);
 }
-
--- a value whole: its literal, and its parts
-abbrev pub Value : Type 0
-Value = Literal × Values
 
 -- values side by side
 abbrev pub valuesOf : List Value → Values

@@ -10,7 +10,7 @@ use Rattle.std.specs.declared.option.Option.the-variants.{Some, None}
 use Rattle.std.specs.declared.result.Result.the-variants.{Ok, Err}
 use Rattle.meaning.specs.Model.{Model, at}
 use Rattle.meaning.specs.Lists.{upto}
-use Rattle.meaning.specs.Items.{Entry, refused, number, numeral, value, long}
+use Rattle.meaning.specs.Items.{Entry, refused, number, numeral, value}
 use Rattle.meaning.specs.Encode.{numeral as written}
 use Rattle.meaning.specs.Keeps.{Keeps}
 use Rattle.meaning.specs.Slots.{nan32}
@@ -37,7 +37,6 @@ pub record Worked-cases : Type 0 where
   -- ff ff ff ff 0f is 2^32 - 1
   pub number-largest-written : written (2 ^ 32 - 1) ≡ 0xff ∷ 0xff ∷ 0xff ∷ 0xff ∷ 0x0f ∷ []
   pub number-largest-read : numeral (0xff ∷ 0xff ∷ 0xff ∷ 0xff ∷ 0x0f ∷ []) ≡ value (2 ^ 32 - 1) 5
-
   -- the id texts "+7" and "007" are 7, and "-0" is 0: the column with that text stands for the field of that id
   pub id-plus : (idOf (codes "+7") ≡ Some (pos 7)) × (byId (oneInt (codes "+7") (pos 7)) 0 1 ≡ Some 1)
   pub id-zeros : (idOf (codes "007") ≡ Some (pos 7)) × (byId (oneInt (codes "007") (pos 7)) 0 1 ≡ Some 1)
@@ -46,18 +45,15 @@ pub record Worked-cases : Type 0 where
   pub id-too-large : (id : ℤ) → (idOf (codes "2147483648") ≡ None) × (byId (oneInt (codes "2147483648") id) 0 1 ≡ None)
   pub id-no-digit : (id : ℤ) → (idOf (codes "-") ≡ None) × (byId (oneInt (codes "-") id) 0 1 ≡ None)
   pub id-space : (id : ℤ) → (idOf (codes " 7") ≡ None) × (byId (oneInt (codes " 7") id) 0 1 ≡ None)
-
   -- the float bits 7f800000 (infinity) are no NaN, 7f800001 and ff800001 are
   pub infinity-no-nan : nan32 0x7f800000 ≡ false
   pub nan-positive : nan32 0x7f800001 ≡ true
   pub nan-negative : nan32 0xff800001 ≡ true
-
   -- keys 5, 6, 5 with values 1, null, 3 give <5:3,6:null>
   pub pairs-accepted : converts (pairsSample false) (byId (pairsSample false)) 2048 ≡ Ok 13
   pub pairs-rows : rows (pairsSample false) (byId (pairsSample false)) ≡ valuesOf (structValue (mapValue (intValue 5 ∷ intValue 3 ∷ intValue 6 ∷ nullValue ∷ []) ∷ []) ∷ [])
   -- with required values it is refused with 16, at the map's column and field
   pub pairs-required : converts (pairsSample true) (byId (pairsSample true)) 2048 ≡ Err (fault 16 1 1)
-
   -- a child 1, 2, 3, 4 under offsets 1, 1, 3 gives [] and [2,3]; its slots 1 and 2 are shown, 0 and 3 are hidden
   pub lists-accepted : converts (listsSample None None) (byId (listsSample None None)) 2048 ≡ Ok 10
   pub lists-rows : rows (listsSample None None) (byId (listsSample None None)) ≡ valuesOf (structValue (listValue [] ∷ []) ∷ structValue (listValue (intValue 2 ∷ intValue 3 ∷ []) ∷ []) ∷ [])
@@ -66,23 +62,19 @@ pub record Worked-cases : Type 0 where
   pub null-list-accepted : converts (listsSample (Some (1 ∷ [])) None) (byId (listsSample (Some (1 ∷ [])) None)) 2048 ≡ Ok 10
   pub null-list-rows : rows (listsSample (Some (1 ∷ [])) None) (byId (listsSample (Some (1 ∷ [])) None)) ≡ valuesOf (structValue (listValue [] ∷ []) ∷ structValue (nullValue ∷ []) ∷ [])
   pub null-list-shown : shownSlots (listsSample (Some (1 ∷ [])) None) 2 (reached (listsSample (Some (1 ∷ [])) None) (byId (listsSample (Some (1 ∷ [])) None)) .0) ≡ false ∷ false ∷ false ∷ false ∷ []
-
   -- a null struct over a null required field gives null
   pub null-struct-accepted : converts (structSample (Some (0 ∷ []))) (byId (structSample (Some (0 ∷ [])))) 2048 ≡ Ok 5
   pub null-struct-rows : rows (structSample (Some (0 ∷ []))) (byId (structSample (Some (0 ∷ [])))) ≡ valuesOf (structValue (nullValue ∷ []) ∷ [])
   -- with the struct not null it is refused with 15, at the field's column
   pub struct-refused : converts (structSample None) (byId (structSample None)) 2048 ≡ Err (fault 15 2 2)
-
   -- a list of empty structs, none null: offsets 0, 1 give one row [{}], offsets 0, 0 one row []
   pub one-empty-struct-accepted : converts (emptyStructsSample (0 ∷ 1 ∷ []) 1) (byId (emptyStructsSample (0 ∷ 1 ∷ []) 1)) 2048 ≡ Ok 4
   pub one-empty-struct-rows : rows (emptyStructsSample (0 ∷ 1 ∷ []) 1) (byId (emptyStructsSample (0 ∷ 1 ∷ []) 1)) ≡ valuesOf (structValue (listValue (structValue [] ∷ []) ∷ []) ∷ [])
   pub no-empty-struct-accepted : converts (emptyStructsSample (0 ∷ 0 ∷ []) 0) (byId (emptyStructsSample (0 ∷ 0 ∷ []) 0)) 2048 ≡ Ok 3
   pub no-empty-struct-rows : rows (emptyStructsSample (0 ∷ 0 ∷ []) 0) (byId (emptyStructsSample (0 ∷ 0 ∷ []) 0)) ≡ valuesOf (structValue (listValue [] ∷ []) ∷ [])
-
   -- Int 1, 2, 3 beside an empty struct gives {1,{}}, {2,{}}, {3,{}}
   pub beside-accepted : converts besideSample (byId besideSample) 2048 ≡ Ok 15
   pub beside-rows : rows besideSample (byId besideSample) ≡ valuesOf (structValue (intValue 1 ∷ structValue [] ∷ []) ∷ structValue (intValue 2 ∷ structValue [] ∷ []) ∷ structValue (intValue 3 ∷ structValue [] ∷ []) ∷ [])
-
   -- all of these batches keep the rules
   pub pairs-keep : Keeps (pairsSample false) × Keeps (pairsSample true)
   pub lists-keep : Keeps (listsSample None None) × Keeps (listsSample (Some (1 ∷ [])) None)

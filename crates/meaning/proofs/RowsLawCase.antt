@@ -1,14 +1,15 @@
 -- A batch that keeps the rules, is accepted, and has NaNs in its rows and at hidden slots.
 use mathlib.Core.Path.{_≡_, refl}
-use mathlib.Core.List.{List, [], _∷_}
+use mathlib.Core.List.{[], _∷_}
 use mathlib.Core.Bool.{false}
-use Prim.Native.Nat.{ℕ, zero, suc}
+use Prim.Native.Nat.{zero, suc}
 use native.Mathlib.Omega.{arith}
 use lib.IntN.{pos}
 use Rattle.std.specs.declared.option.Option.the-variants.{Some, None}
 use Rattle.std.specs.declared.result.Result.the-variants.{Ok}
 use Rattle.meaning.specs.Forest.{none, tree}
-use Rattle.meaning.specs.Model.{Model, Column, Field, Shape, prim, map, float, double, Code, words, float32, float64, maps}
+use Rattle.meaning.specs.Model.{Model, prim, map, float, double, words, float32, float64, maps}
+use Rattle.meaning.specs.Samples.{sampleField, sampleColumn}
 use Rattle.meaning.specs.Access.{Pick, Own}
 use Rattle.meaning.specs.Rows.{rows}
 use Rattle.meaning.specs.Converts.{converts}
@@ -19,20 +20,14 @@ use Rattle.meaning.specs.Keeps.{Keeps, ColumnsKeep}
 use Rattle.meaning.specs.Converter.{listed, conversion}
 use Rattle.meaning.proofs.Filing.{converted-law}
 
-abbrev field : ℕ → Shape → Field
-field i s = record { id = pos i; required = false; name = []; shape = s }
-
-abbrev col : Code → ℕ → List ℕ → List ℕ → Column
-col k n os b = record { name = []; idText = None; code = k; len = n; validity = None; offsets = os; body = b }
-
 -- one map of Float to Double: keys NaN, 1, another NaN; values NaN, NaN, 1
 abbrev pub some : Model
 some = record {
   rows = 1;
-  fields = tree (field 1 map) (tree (field 2 (prim float)) none (tree (field 3 (prim double)) none none)) none;
-  columns = tree (col maps 1 (0 ∷ 3 ∷ []) [])
-      (tree (col (words float32) 3 [] (0 ∷ 0 ∷ 192 ∷ 127 ∷ 0 ∷ 0 ∷ 128 ∷ 63 ∷ 1 ∷ 0 ∷ 192 ∷ 255 ∷ [])) none
-      (tree (col (words float64) 3 [] (0 ∷ 0 ∷ 0 ∷ 0 ∷ 0 ∷ 0 ∷ 248 ∷ 127 ∷ 0 ∷ 0 ∷ 0 ∷ 0 ∷ 0 ∷ 0 ∷ 248 ∷ 127 ∷ 0 ∷ 0 ∷ 0 ∷ 0 ∷ 0 ∷ 0 ∷ 240 ∷ 63 ∷ [])) none none)) none;
+  fields = tree (sampleField (pos 1) false map) (tree (sampleField (pos 2) false (prim float)) none (tree (sampleField (pos 3) false (prim double)) none none)) none;
+  columns = tree (sampleColumn None maps 1 None (0 ∷ 3 ∷ []) [])
+      (tree (sampleColumn None (words float32) 3 None [] (0 ∷ 0 ∷ 192 ∷ 127 ∷ 0 ∷ 0 ∷ 128 ∷ 63 ∷ 1 ∷ 0 ∷ 192 ∷ 255 ∷ [])) none
+      (tree (sampleColumn None (words float64) 3 None [] (0 ∷ 0 ∷ 0 ∷ 0 ∷ 0 ∷ 0 ∷ 248 ∷ 127 ∷ 0 ∷ 0 ∷ 0 ∷ 0 ∷ 0 ∷ 0 ∷ 248 ∷ 127 ∷ 0 ∷ 0 ∷ 0 ∷ 0 ∷ 0 ∷ 0 ∷ 240 ∷ 63 ∷ [])) none none)) none;
 }
 
 -- the batch's one top column for its one top field, and nothing else
@@ -57,7 +52,7 @@ some-keeps = record {
   small = omega arith;
 }
   where
-    values : ColumnsKeep (tree (col (words float64) 3 [] (0 ∷ 0 ∷ 0 ∷ 0 ∷ 0 ∷ 0 ∷ 248 ∷ 127 ∷ 0 ∷ 0 ∷ 0 ∷ 0 ∷ 0 ∷ 0 ∷ 248 ∷ 127 ∷ 0 ∷ 0 ∷ 0 ∷ 0 ∷ 0 ∷ 0 ∷ 240 ∷ 63 ∷ [])) none none)
+    values : ColumnsKeep (tree (sampleColumn None (words float64) 3 None [] (0 ∷ 0 ∷ 0 ∷ 0 ∷ 0 ∷ 0 ∷ 248 ∷ 127 ∷ 0 ∷ 0 ∷ 0 ∷ 0 ∷ 0 ∷ 0 ∷ 248 ∷ 127 ∷ 0 ∷ 0 ∷ 0 ∷ 0 ∷ 0 ∷ 0 ∷ 240 ∷ 63 ∷ [])) none none)
     values = (omega arith, tt, omega arith, tt, (refl, omega arith, refl, refl), tt, tt)
 
 abbrev call : Call
