@@ -22,7 +22,7 @@ use Rattle.meaning.specs.Literals.{nullLiteral, literalBy, literalAt}
 use Rattle.meaning.specs.Converts.{hasNumber, detailIs, hasWidth, accepts, takes, fieldHook, ownHook, checkFields, andThen}
 use Rattle.meaning.specs.Nans.{nanLiteral}
 use Rattle.meaning.proofs.Codes.{is-float, is-double, no-nan, nested-no-nan}
-use Rattle.meaning.proofs.Enough.{Holds}
+use Rattle.meaning.proofs.Premises.{Exactly}
 
 -- a code by its number: no other than 4 and 5 holds a NaN
 no-nan-is : (k : Code) (n : ℕ) (body : List ℕ) (i : ℕ) → (n ≡ 4 → ⊥) → (n ≡ 5 → ⊥) → hasNumber k n ≡ true → nanBy k body i ≡ false
@@ -134,7 +134,7 @@ module _ (m : Model) (pick : Pick) (cells : ℕ) where
       (k .0, subst (λ (p : ℕ). Step f below rest s up n c taken t p) (k .1) (record { met = a .1; t₁ = b .0; inner = b .1; t₂ = d .0; mine = d .1; t₃ = g .0; after = g .2 }))
 
   -- a NaN of the column is a NaN of the value
-  kind-nan : (s : Shape) (below : Forest Field) (n p taken t₁ t₂ : ℕ) → Holds s below → checkFields m pick cells below s n (n + 1) p taken ≡ Ok t₁ → ownHook m cells s below n p t₁ ≡ Ok t₂
+  kind-nan : (s : Shape) (below : Forest Field) (n p taken t₁ t₂ : ℕ) → Exactly s below → checkFields m pick cells below s n (n + 1) p taken ≡ Ok t₁ → ownHook m cells s below n p t₁ ≡ Ok t₂
       → (i : ℕ) → nanBy (at m p .code) (at m p .body) i ≡ nanLiteral (literalBy s (at m p) i)
   kind-nan (prim k) below n p taken t₁ t₂ h c o i = prim-nan k (at m p) i (ok-test (accepts k (at m p .code)) (takes cells n p (at m p .len) t₁) (fault 14 p n) t₂ o .0)
   kind-nan struct none n p taken t₁ t₂ h c o i = struct-nan (at m p .code) (at m p .body) i (not-false (struct? m p) (ok-miss (not (struct? m p)) _ (fault 14 p n) t₂ o))
@@ -144,6 +144,6 @@ module _ (m : Model) (pick : Pick) (cells : ℕ) where
   kind-nan map none n p taken t₁ t₂ h c o i = absurd h
   kind-nan map (tree f below rest) n p taken t₁ t₂ h c o i = map-nan (at m p .code) (at m p .body) i (step f below rest map n (n + 1) p taken t₁ c .0)
 
-  pub item-nan : (s : Shape) (below : Forest Field) (n p taken t₁ t₂ : ℕ) → Holds s below → checkFields m pick cells below s n (n + 1) p taken ≡ Ok t₁ → ownHook m cells s below n p t₁ ≡ Ok t₂
+  pub item-nan : (s : Shape) (below : Forest Field) (n p taken t₁ t₂ : ℕ) → Exactly s below → checkFields m pick cells below s n (n + 1) p taken ≡ Ok t₁ → ownHook m cells s below n p t₁ ≡ Ok t₂
       → (i : ℕ) → nan (at m p) i ≡ nanLiteral (literalAt s (at m p) i)
   item-nan s below n p taken t₁ t₂ h c o i = null-nan (null (at m p) i) (nanBy (at m p .code) (at m p .body) i) s (at m p) i (kind-nan s below n p taken t₁ t₂ h c o i)

@@ -14,7 +14,7 @@ use Rattle.meaning.specs.Items.{little, signed}
 use Rattle.meaning.specs.Slots.{stored}
 use Rattle.meaning.specs.Equal.{sameInteger}
 use Rattle.meaning.specs.Literals.{primitiveLiteral, sameKey}
-use Rattle.meaning.proofs.Formed.{Bytes}
+use Rattle.meaning.specs.Keeps.{Bytes}
 use Rattle.meaning.specs.Converter.{sameLiteral}
 
 -- what w bytes can hold

@@ -21,7 +21,8 @@ use Rattle.meaning.specs.Converts.{checkFields}
 use Rattle.meaning.specs.Equal.{sameInteger}
 use Rattle.meaning.specs.Nans.{nanLiteral, sumElements, sumPairs, nansIn}
 use Rattle.meaning.specs.Reaches.{reaches, shownWithin}
-use Rattle.meaning.proofs.Enough.{Plain, Holds, Shaped, Enough}
+use Rattle.meaning.specs.Keeps.{Plain}
+use Rattle.meaning.proofs.Premises.{key-plain, Exactly, Formed, Premises}
 use Rattle.meaning.proofs.Keys.{same-alike}
 use Rattle.meaning.proofs.Totals.{sumTo, anyTo, any-upto, sum-ext, sum-none, sum-add, sum-cond, Cuts, hit, sum-cuts}
 use Rattle.meaning.proofs.Pairs.{sum-kept}
@@ -258,7 +259,7 @@ start struct n = tt
 start list n = tt
 start map n = refl
 
-module _ (m : Model) (pick : Pick) (id : ℤ) (cells : ℕ) (keeps : Enough m) (mine : Own m pick) where
+module _ (m : Model) (pick : Pick) (id : ℤ) (cells : ℕ) (keeps : Premises m) (mine : Own m pick) where
   key-column : (up c n : ℕ) → n ≡ up + 1 → target m pick cells map up c n ≡ getD (kids m c) 0 0
   key-column up c n e = ap (λ (b : Bool). getD (kids m c) (cond b 0 1) 0) (eq-eqb n (up + 1) e)
 
@@ -266,7 +267,7 @@ module _ (m : Model) (pick : Pick) (id : ℤ) (cells : ℕ) (keeps : Enough m) (
   value-column up c n k e = ap (λ (b : Bool). getD (kids m c) (cond b 0 1) 0) (ne-eqb (n + 1 + k) (up + 1) (λ h. omega arith))
 
   -- what is below a type at column c: no refusal, at most as many reaches as fields, and the shown NaNs are those of the parts
-  pub conserves : (fs : Forest Field) (s : Shape) (up n c : ℕ) (shown : ℕ → Bool) (taken t : ℕ) → Start s up n → Shaped fs → Holds s fs → checkFields m pick cells fs s up n c taken ≡ Ok t
+  pub conserves : (fs : Forest Field) (s : Shape) (up n c : ℕ) (shown : ℕ → Bool) (taken t : ℕ) → Start s up n → Formed fs → Exactly s fs → checkFields m pick cells fs s up n c taken ≡ Ok t
       → Conserved m pick id fs s up n c shown
   conserves none s up n c shown taken t b sh ho e = good-at m id ([], None) 0 0 0 _ (omega arith) (sym (sum-none (at m c .len) _ (λ i h. cond-zero (live m pick id c shown i)))) (good-none m id 0)
   conserves (tree f below rest) (prim k) up n c shown taken t b sh ho e = absurd (step m pick cells f below rest (prim k) up n c taken t e .0)
@@ -298,7 +299,7 @@ module _ (m : Model) (pick : Pick) (id : ℤ) (cells : ℕ) (keeps : Enough m) (
       let su = step m pick cells g under′ rest map up v c (k .t₃) t (k .after) in
       let w : Step m pick cells g under′ rest map up v c (k .t₃) t q = subst (λ (x : ℕ). Step m pick cells g under′ rest map up v c (k .t₃) t x) (value-column up c n (size below) b) (su .1) in
       let cuts : Cut m pick id c p = map-cuts (at m c .code) (at m c) (at m p .len) (st .0) (keeps .cutting c) in
-      map-good m pick id f g below under′ rest up n c shown ho
+      map-good m pick id f g below under′ rest up n c shown (key-plain f g below under′ rest ho)
       (item-nan m pick cells (f .shape) below n p taken (k .t₁) (k .t₂) (sh .0) (k .inner) (k .mine))
       (item-nan m pick cells (g .shape) under′ v q (k .t₃) (w .t₁) (w .t₂) (sh .2 .0) (w .inner) (w .mine))
       cuts

@@ -14,17 +14,17 @@ use Rattle.meaning.specs.Access.{Pick, Own, StepFault, partner}
 use Rattle.meaning.specs.Literals.{nullLiteral, structLiteral, Value}
 use Rattle.meaning.specs.Rows.{joined, parts, row, rows}
 use Rattle.meaning.specs.Converts.{fieldHook, converts, ownHook, checkFields, andThen}
-use Rattle.meaning.proofs.Enough.{Enough}
-use Rattle.meaning.proofs.Formed.{Formed, Filed}
+use Rattle.meaning.proofs.KeepsPremises.{keeps-premises}
+use Rattle.meaning.proofs.Premises.{Premises, Formed}
 use Rattle.meaning.specs.Walk.{Step, ret, bind, role, close, finish, walk, bindResult, visitStruct}
-use Rattle.meaning.specs.Converter.{listed, converter, conversion, Converted}
+use Rattle.meaning.specs.Converter.{listed, converter, conversion, Converted, Converted-law}
 use Rattle.meaning.proofs.Accepted.{target, Kind, partner-kind}
 use Rattle.meaning.proofs.Places.{Placed, placed-all, placed-here, placed-type, placed-below, placed-rest}
 use Rattle.meaning.proofs.Everywhere.{all-upto, each-ext}
 use Rattle.meaning.proofs.Agreeing.{Agrees, agrees-then, agrees-push, chain-chain}
 use Rattle.meaning.proofs.Steps.{valueOf, columnOf, results, close-agrees, target-found, finish-agrees}
 
-module _ (m : Model) (pick : Pick) (cells : ℕ) (keeps : Enough m) (filed : Filed m) (mine : Own m pick) where
+module _ (m : Model) (pick : Pick) (cells : ℕ) (keeps : Premises m) (mine : Own m pick) where
   abbrev conv : Forest Field → Shape → ℕ → ℕ → ℕ → Step ℕ (List (List Value))
   conv = walk m pick (converter m cells)
 
@@ -61,7 +61,7 @@ module _ (m : Model) (pick : Pick) (cells : ℕ) (keeps : Enough m) (filed : Fil
       type-agrees taken =
           agrees-then m pick cells (conv below (f .shape) n (n + 1) here taken) (checkFields m pick cells below (f .shape) n (n + 1) here taken) (results m pick cells below (f .shape) n (n + 1) here)
           (close (converter m cells) (f .shape) n here) (ownHook m cells (f .shape) below n here) mine′ (wb here taken)
-          (λ t e. close-agrees m pick cells keeps filed mine (f .shape) below n here taken t (placed-type m f below rest n pl) (target-found m pick cells mine s up n c kind) (fo .0) (fo .1) e)
+          (λ t e. close-agrees m pick cells keeps mine (f .shape) below n here taken t (placed-type m f below rest n pl) (target-found m pick cells mine s up n c kind) (fo .0) (fo .1) e)
 
       -- its `field`, and the fields after it
       tail-agrees : (t : ℕ) → Agrees (bind (finish (converter m cells) (role s up n) n here mine′) following t)
@@ -102,8 +102,8 @@ module _ (m : Model) (pick : Pick) (cells : ℕ) (keeps : Enough m) (filed : Fil
   struct-walks =
       agrees-then m pick cells (conv (m .fields) struct 0 1 0 0) (checkFields m pick cells (m .fields) struct 0 1 0 0) (results m pick cells (m .fields) struct 0 1 0)
       (close (converter m cells) struct 0 0) (ownHook m cells struct (m .fields) 0 0) (columnOf m pick struct (m .fields) 0 0)
-      (walk-agrees (m .fields) struct 0 1 0 (placed-all m) (filed .formed) 0)
-      (λ t e. close-agrees m pick cells keeps filed mine struct (m .fields) 0 0 0 t refl refl tt (filed .formed) e)
+      (walk-agrees (m .fields) struct 0 1 0 (placed-all m) (keeps .formed) 0)
+      (λ t e. close-agrees m pick cells keeps mine struct (m .fields) 0 0 0 t refl refl tt (keeps .formed) e)
 
 -- the rows, as a list, are the values of column 0
 module _ (m : Model) (pick : Pick) where
@@ -130,12 +130,15 @@ agrees-err : {X : Type 0} (x : Result X StepFault × ℕ) (r : Result ℕ StepFa
 agrees-err {X} x (Ok u) v a f e = absurd (let d : _≡_ {A = Result X StepFault} (Ok v) (Err f) = sym (ap (λ y. y .0) a) ∙ e in let z : _≡_ {A = ℕ} 0 1 = cc in omega arith)
 agrees-err {X} x (Err g) v a f e = let d : _≡_ {A = Result X StepFault} (Err g) (Err f) = sym a ∙ e in cc
 
-pub converted : (m : Model) → Enough m → Filed m → (pick : Pick) → Own m pick → (cells : ℕ) → Converted m pick cells
-converted m keeps filed pick mine cells = record {
+pub converted : (m : Model) → Premises m → (pick : Pick) → Own m pick → (cells : ℕ) → Converted m pick cells
+converted m keeps pick mine cells = record {
   accepted = ok-agrees (conversion m pick cells) (converts m pick cells) (listed (rows m pick)) whole;
   refused = err-agrees (conversion m pick cells) (converts m pick cells) (listed (rows m pick)) whole;
   exactly = agrees-err (conversion m pick cells) (converts m pick cells) (listed (rows m pick)) whole;
 }
   where
     whole : Agrees (conversion m pick cells) (converts m pick cells) (listed (rows m pick))
-    whole = subst (λ (v : List Value). Agrees (conversion m pick cells) (converts m pick cells) v) (rows-column m pick) (struct-walks m pick cells keeps filed mine)
+    whole = subst (λ (v : List Value). Agrees (conversion m pick cells) (converts m pick cells) v) (rows-column m pick) (struct-walks m pick cells keeps mine)
+
+pub converted-law : Converted-law
+converted-law m k pick mine cells = converted m (keeps-premises m k) pick mine cells

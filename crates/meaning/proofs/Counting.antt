@@ -19,12 +19,12 @@ use Rattle.meaning.specs.Nans.{nans}
 use Rattle.meaning.specs.Reaches.{Reach, Found, reaches, reached, followedBy, atPartner, oneReach, shownWithin}
 use Rattle.meaning.specs.Table.{hasRoom, Table, added, Answer, addReaches}
 use Rattle.meaning.specs.Walk.{Step, ret, bind, Role, structField, listElement, mapKey, mapValue, role, fieldAt, missing, close, finish, walk, bindResult}
-use Rattle.meaning.proofs.Formed.{Exactly, Formed}
+use Rattle.meaning.proofs.Premises.{Exactly, Formed}
 use Rattle.meaning.specs.Converter.{refuseIf}
 use Rattle.meaning.specs.Counter.{counter, Counted-law, countReach, countReachBy, computeWalk}
 use Rattle.meaning.proofs.Accepted.{partner-kind}
 use Rattle.meaning.proofs.Steps.{target-found}
-use Rattle.meaning.proofs.Whole.{keeps-formed}
+use Rattle.meaning.proofs.KeepsPremises.{keeps-formed}
 use Rattle.meaning.proofs.Places.{Placed, placed-all, placed-here, placed-below, placed-rest}
 
 abbrev Outcome : Type 0

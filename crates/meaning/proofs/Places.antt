@@ -16,6 +16,7 @@ use Rattle.meaning.specs.Lists.{among}
 use Rattle.meaning.specs.Access.{kids}
 use Rattle.meaning.specs.Walk.{fieldAt, typeOf, typeAt, missing, absentColumn}
 use Rattle.meaning.specs.Converter.{holderIn, holder}
+use Rattle.meaning.proofs.Finds.{Tree, some-is, find-end, among-range, column-child}
 
 -- the fields that a walk has before it, from field n on, are the schema's under their numbers
 module _ (m : Model) where
@@ -49,17 +50,6 @@ module _ (m : Model) where
       found = λ k h l. pl .found k (omega arith) (omega arith) ∙ (cond-false (eqb k n) _ _ (ne-eqb k n (λ e. omega arith)) ∙ cond-false (ltb k (n + 1 + size below)) _ _ (le-ltb k (n + 1 + size below) h));
     }
 
--- numbers side by side begin at the first and end before what follows
-among-range : (F : Forest Column) (k n : ℕ) → among k (numbers n F) ≡ true → (n ≤ k) × (k < n + size F)
-among-range none k n e = absurd (let z : _≡_ {A = ℕ} 0 1 = cc in omega arith)
-among-range (tree x ks rest) k n e = pass (eqb k n) refl e (among-range rest k (n + 1 + size ks))
-  where
-    pass : (b : Bool) → eqb k n ≡ b → (b || among k (numbers (n + 1 + size ks) rest)) ≡ true
-        → (among k (numbers (n + 1 + size ks) rest) ≡ true → (n + 1 + size ks ≤ k) × (k < n + 1 + size ks + size rest))
-        → (n ≤ k) × (k < n + (1 + size ks + size rest))
-    pass true t e r = let z = eqb-true k n t in (omega arith, omega arith)
-    pass false t e r = let z = r e in (omega arith, omega arith)
-
 -- a tree side by side is held by what holds them all
 held-beside : (F : Forest Column) (k up n : ℕ) → among k (numbers n F) ≡ true → holderIn k up n F ≡ up
 held-beside none k up n e = refl
@@ -69,25 +59,6 @@ held-beside (tree x ks rest) k up n e = pass (eqb k n) e (held-beside rest k up 
         → cond b up (cond (ltb k (n + 1 + size ks)) (holderIn k n (n + 1) ks) (holderIn k up (n + 1 + size ks) rest)) ≡ up
     pass true e r = refl
     pass false e r = cond-false (ltb k (n + 1 + size ks)) _ _ (le-ltb k (n + 1 + size ks) (among-range rest k (n + 1 + size ks) e .0)) ∙ r e
-
-abbrev Tree : Type 0
-Tree = Column × Forest Column
-
-some-is : (u v : Tree) → _≡_ {A = Option Tree} (Some u) (Some v) → u ≡ v
-some-is u v e = cc
-
--- what is found ends before what follows
-find-end : (F : Forest Column) (c n : ℕ) (v : Tree) → find c n F ≡ Some v → (n ≤ c) × (c + 1 + size (v .1) ≤ n + size F)
-find-end none c n v e = absurd (let z : _≡_ {A = ℕ} 0 1 = cc in omega arith)
-find-end (tree h ks rest) c n v e = pass (eqb c n) (ltb c (n + 1 + size ks)) refl e (find-end ks c (n + 1) v) (find-end rest c (n + 1 + size ks) v)
-  where
-    pass : (b d : Bool) → eqb c n ≡ b → cond b (Some (h, ks)) (cond d (find c (n + 1) ks) (find c (n + 1 + size ks) rest)) ≡ Some v
-        → (find c (n + 1) ks ≡ Some v → (n + 1 ≤ c) × (c + 1 + size (v .1) ≤ n + 1 + size ks))
-        → (find c (n + 1 + size ks) rest ≡ Some v → (n + 1 + size ks ≤ c) × (c + 1 + size (v .1) ≤ n + 1 + size ks + size rest))
-        → (n ≤ c) × (c + 1 + size (v .1) ≤ n + (1 + size ks + size rest))
-    pass true d t e a b = let z = eqb-true c n t in let w = ap (λ (u : Tree). size (u .1)) (some-is (h, ks) v e) in (omega arith, omega arith)
-    pass false true t e a b = let r = a e in (omega arith, omega arith)
-    pass false false t e a b = let r = b e in (omega arith, omega arith)
 
 -- a column that is found is the holder of the trees straight below it
 held-below : (F : Forest Column) (c k up n : ℕ) (v : Tree) → find c n F ≡ Some v → among k (numbers (c + 1) (v .1)) ≡ true → holderIn k up n F ≡ c
@@ -126,50 +97,8 @@ held-child m (suc c) k a = go (find (suc c) 1 (m .columns)) refl a
     go (Some v) e a = held-below (m .columns) (suc c) k 0 1 v e a
 
 -- a column's child is a column
-found-beside : (F : Forest Column) (k n : ℕ) → among k (numbers n F) ≡ true → absentColumn (find k n F) ≡ false
-found-beside none k n e = absurd (let z : _≡_ {A = ℕ} 0 1 = cc in omega arith)
-found-beside (tree x ks rest) k n e = pass (eqb k n) e (found-beside rest k (n + 1 + size ks))
-  where
-    pass : (b : Bool) → (b || among k (numbers (n + 1 + size ks) rest)) ≡ true → (among k (numbers (n + 1 + size ks) rest) ≡ true → absentColumn (find k (n + 1 + size ks) rest) ≡ false)
-        → absentColumn (cond b (Some (x, ks)) (cond (ltb k (n + 1 + size ks)) (find k (n + 1) ks) (find k (n + 1 + size ks) rest))) ≡ false
-    pass true e r = refl
-    pass false e r = ap absentColumn (cond-false (ltb k (n + 1 + size ks)) _ _ (le-ltb k (n + 1 + size ks) (among-range rest k (n + 1 + size ks) e .0))) ∙ r e
-
-found-below : (F : Forest Column) (c k n : ℕ) (v : Tree) → find c n F ≡ Some v → among k (numbers (c + 1) (v .1)) ≡ true → absentColumn (find k n F) ≡ false
-found-below none c k n v e a = absurd (let z : _≡_ {A = ℕ} 0 1 = cc in omega arith)
-found-below (tree h ks rest) c k n v e a =
-    pass (eqb c n) (ltb c (n + 1 + size ks)) refl e (λ t. found-below ks c k (n + 1) v t a) (λ t. found-below rest c k (n + 1 + size ks) v t a)
-  where
-    far : (c + 1 ≤ k) × (k < c + 1 + size (v .1))
-    far = among-range (v .1) k (c + 1) a
-
-    inside : n + 1 ≤ k → k < n + 1 + size ks → absentColumn (find k (n + 1) ks) ≡ false → absentColumn (find k n (tree h ks rest)) ≡ false
-    inside lo hi e = ap absentColumn (cond-false (eqb k n) _ _ (ne-eqb k n (λ t. omega arith)) ∙ cond-true (ltb k (n + 1 + size ks)) _ _ (lt-ltb k (n + 1 + size ks) hi)) ∙ e
-
-    past : n + 1 + size ks ≤ k → absentColumn (find k (n + 1 + size ks) rest) ≡ false → absentColumn (find k n (tree h ks rest)) ≡ false
-    past lo e = ap absentColumn (cond-false (eqb k n) _ _ (ne-eqb k n (λ t. omega arith)) ∙ cond-false (ltb k (n + 1 + size ks)) _ _ (le-ltb k (n + 1 + size ks) lo)) ∙ e
-
-    pass : (b d : Bool) → eqb c n ≡ b → cond b (Some (h, ks)) (cond d (find c (n + 1) ks) (find c (n + 1 + size ks) rest)) ≡ Some v
-        → (find c (n + 1) ks ≡ Some v → absentColumn (find k (n + 1) ks) ≡ false) → (find c (n + 1 + size ks) rest ≡ Some v → absentColumn (find k (n + 1 + size ks) rest) ≡ false)
-        → absentColumn (find k n (tree h ks rest)) ≡ false
-    pass true d t e x y =
-        let g = far in
-        let z = eqb-true c n t in
-        let w = ap (λ (u : Tree). size (u .1)) (some-is (h, ks) v e) in
-        let q : among k (numbers (n + 1) ks) ≡ true = subst₂ (λ (j : ℕ) (u : Tree). among k (numbers (j + 1) (u .1)) ≡ true) z (sym (some-is (h, ks) v e)) a in
-        inside (omega arith) (omega arith) (found-beside ks k (n + 1) q)
-    pass false true t e x y = let g = far in let r = find-end ks c (n + 1) v e in inside (omega arith) (omega arith) (x e)
-    pass false false t e x y = let g = far in let r = find-end rest c (n + 1 + size ks) v e in past (omega arith) (y e)
-
 pub found-child : (m : Model) (c k : ℕ) → among k (kids m c) ≡ true → missing m k ≡ false
-found-child m zero zero a = refl
-found-child m zero (suc k) a = found-beside (m .columns) (suc k) 1 a
-found-child m (suc c) zero a = refl
-found-child m (suc c) (suc k) a = go (find (suc c) 1 (m .columns)) refl a
-  where
-    go : (o : Option Tree) → find (suc c) 1 (m .columns) ≡ o → among (suc k) (numbers (suc c + 1) (below o)) ≡ true → missing m (suc k) ≡ false
-    go None e a = absurd (let z : _≡_ {A = ℕ} 0 1 = cc in omega arith)
-    go (Some v) e a = found-below (m .columns) (suc c) (suc k) 1 v e a
+found-child m c k a = ap absentColumn (column-child m c k a .1)
 
 -- so is the child at a place; where there is none the place says 0, which is the batch
 getD-among : (ns : List ℕ) (i : ℕ) → (getD ns i 0 ≡ 0) ⊎ (among (getD ns i 0) ns ≡ true)

@@ -24,7 +24,7 @@ use Rattle.meaning.specs.Reaches.{Reach, reached}
 use Rattle.meaning.specs.Nans.{nans, nansIn}
 use Rattle.meaning.specs.Table.{Table, countOf, Answer, answer}
 use Rattle.meaning.specs.CounterLaw.{Call, computes, floatAdditions, sumOf, hiddenNansOf, rowNans, Rows-law}
-use Rattle.meaning.proofs.Filing.{keeps-enough}
+use Rattle.meaning.proofs.KeepsPremises.{keeps-premises}
 use Rattle.meaning.proofs.Totals.{total-upto, sum-ext}
 use Rattle.meaning.proofs.Accepted.{chain-ok}
 use Rattle.meaning.proofs.Found.{Good}
@@ -75,15 +75,15 @@ module _ (c : Call) (id : ℤ) where
   module _ (cells taken : ℕ) (e : converts m (c .pick) cells ≡ Ok taken) where
     walked : Good m id (reached m (c .pick)) (size (m .fields)) (inParts m (c .pick) id (m .fields) struct 1 0 (λ i. ltb i (m .rows)))
     walked =
-        let k = keeps-enough m (c .keeps) in
+        let k = keeps-premises m (c .keeps) in
         let a = chain-ok m (c .pick) cells (checkFields m (c .pick) cells (m .fields) struct 0 1 0 0) _ taken e in
-        conserves m (c .pick) id cells k (c .own) (m .fields) struct 0 1 0 (λ i. ltb i (m .rows)) 0 (a .0) tt (k .shaped) tt (a .1)
+        conserves m (c .pick) id cells k (c .own) (m .fields) struct 0 1 0 (λ i. ltb i (m .rows)) 0 (a .0) tt (k .formed) tt (a .1)
 
     few : length ours ≤ 256
-    few = le-trans (walked .few) (keeps-enough m (c .keeps) .few)
+    few = le-trans (walked .few) (keeps-premises m (c .keeps) .few)
 
     small : reachSum m id ours ≤ 2 ^ 64 - 1
-    small = omega (arith, few, reach-bound m id 65536 (λ x. le-trans (nans-small m x) (keeps-enough m (c .keeps) .short x)) ours)
+    small = omega (arith, few, reach-bound m id 65536 (λ x. le-trans (nans-small m x) (keeps-premises m (c .keeps) .short x)) ours)
 
     fits : length (folded [] (floatAdditions m ours)) ≤ 256
     fits = omega (arith, few, additions-few ours, distinct-most (floatAdditions m ours), length-distinct (floatAdditions m ours))

@@ -9,7 +9,7 @@ use lib.ListN.{getD}
 use Rattle.meaning.specs.Model.{Column, Code, bits, words, variable, fixedSizeBinary, structs, lists, largeLists, fixedSizeLists, maps}
 use Rattle.meaning.specs.Slots.{spanBy}
 use Rattle.meaning.specs.Codes.{isList, isMap}
-use Rattle.meaning.proofs.Enough.{Ascends, Cutting}
+use Rattle.meaning.proofs.Premises.{Ascends, Cutting}
 use Rattle.meaning.proofs.Totals.{Cuts}
 
 unlike : false ≡ true → ⊥

@@ -18,8 +18,8 @@ use Rattle.meaning.specs.Access.{Pick, Own, fault, kids}
 use Rattle.meaning.specs.Literals.{nullLiteral, structLiteral, listLiteral, mapLiteral, Values, primitiveLiteral, literalBy, literalAt, sameBy, Value}
 use Rattle.meaning.specs.Rows.{joined, kept, parts}
 use Rattle.meaning.specs.Converts.{accepts, takes, fieldHook, nullInSpans, ownHook, checkFields}
-use Rattle.meaning.proofs.Enough.{Plain, Cutting, Enough}
-use Rattle.meaning.proofs.Formed.{Exactly, Formed, Bytes, Filed}
+use Rattle.meaning.specs.Keeps.{Plain, Bytes}
+use Rattle.meaning.proofs.Premises.{Cutting, Premises, Exactly, Formed}
 use Rattle.meaning.specs.Walk.{Step, mapKey, mapValue, role, fieldAt, typeAt, missing, close, finish}
 use Rattle.meaning.specs.Converter.{slot, primOf, structOf, listOf, mapOf, requiredOf, holder, pastEnd, elements, entries, pairCells, uneven, taking, fieldStep, converter, isNullLiteral, sameLiteral, putBefore, refuseIf, nullInSpan, listRows, rowValues, fieldParts, keptPairs, nullRequired}
 use Rattle.meaning.proofs.Totals.{Cuts}
@@ -147,7 +147,7 @@ module _ (m : Model) (pick : Pick) (cells : ℕ) where
   null-holds s below n c q k = some-ext _ _ (upto (at m c .len)) (all-upto _ (at m c .len) (λ i h.
       ap (λ (b : Bool). not (null (at m c) i) && b) (some-ext _ _ (spanSlots (at m c) i) (all-cut (at m c) (at m q .len) k _ i h (λ j t. column-null m pick s below n q j t)))))
 
-  module _ (keeps : Enough m) (mine : Own m pick) where
+  module _ (keeps : Premises m) (mine : Own m pick) where
     -- a struct's fields have its length, and side by side they are its parts
     mate-length : (c n : ℕ) → Kind m pick cells struct c n → at m (orZero (pick c n)) .len ≡ at m c .len
     mate-length c n k = keeps .level c (orZero (pick c n)) (k .0) (mine c n (orZero (pick c n)) (k .1))
@@ -189,7 +189,7 @@ module _ (m : Model) (pick : Pick) (cells : ℕ) where
             ap (λ (ps : Values). (literalAt struct (at m c) i, cond (null (at m c) i) none ps)) (struct-across fs n (n + 1) c taken t k i h)))
 
   -- a list, whose elements are what its spans cut out of the child's values
-  module _ (keeps : Enough m) (g : Field) (under : Forest Field) (n c t : ℕ) (ty : typeAt m n ≡ Some (list, tree g under none)) (seen : missing m c ≡ false) (kind : list? m c ≡ true) where
+  module _ (keeps : Premises m) (g : Field) (under : Forest Field) (n c t : ℕ) (ty : typeAt m n ≡ Some (list, tree g under none)) (seen : missing m c ≡ false) (kind : list? m c ≡ true) where
     abbrev child : ℕ
     child = getD (kids m c) 0 0
 
@@ -232,7 +232,7 @@ module _ (m : Model) (pick : Pick) (cells : ℕ) where
         list-body)))
 
   -- a map, whose pairs are kept by the keys' values
-  module _ (keeps : Enough m) (filed : Filed m) (f g : Field) (kb vb : Forest Field) (n c t : ℕ) (ty : typeAt m n ≡ Some (map, tree f kb (tree g vb none))) (seen : missing m c ≡ false) (kind : map? m c ≡ true)
+  module _ (keeps : Premises m) (f g : Field) (kb vb : Forest Field) (n c t : ℕ) (ty : typeAt m n ≡ Some (map, tree f kb (tree g vb none))) (seen : missing m c ≡ false) (kind : map? m c ≡ true)
       (plain : Plain (f .shape)) (bare′ : Exactly (f .shape) kb) where
     abbrev keyed : ℕ
     keyed = getD (kids m c) 0 0
@@ -280,7 +280,7 @@ module _ (m : Model) (pick : Pick) (cells : ℕ) where
       alike-slots : (i j : ℕ) → Live i → Live j → sameLiteral (slot keys i .0) (slot keys j .0) ≡ same i j
       alike-slots i j a b =
           ap₂ (λ (u v : Value). sameLiteral (u .0) (v .0)) (column-slot m pick (f .shape) kb (n + 1) keyed i (a .0)) (column-slot m pick (f .shape) kb (n + 1) keyed j (b .0))
-          ∙ alike-item (f .shape) plain (at m keyed) (filed .bytes keyed) i j (a .1) (b .1)
+          ∙ alike-item (f .shape) plain (at m keyed) (keeps .bytes keyed) i j (a .1) (b .1)
 
       pairs-slots : (i : ℕ) → i < at m c .len → null (at m c) i ≡ false → keptPairs (at m c) keys i ≡ kept same (spanSlots (at m c) i)
       pairs-slots i h e = pairs-same Live (λ a b. sameLiteral (slot keys a .0) (slot keys b .0)) same alike-slots (spanSlots (at m c) i) (live-cut i h e)
@@ -347,22 +347,22 @@ module _ (m : Model) (pick : Pick) (cells : ℕ) where
         (sym value-target) map-body)
 
   -- the hook of any type, on the results of the fields that it holds
-  pub close-agrees : Enough m → Filed m → Own m pick → (s : Shape) (below : Forest Field) (n c taken t : ℕ) → typeAt m n ≡ Some (s, below) → missing m c ≡ false → Exactly s below → Formed below
+  pub close-agrees : Premises m → Own m pick → (s : Shape) (below : Forest Field) (n c taken t : ℕ) → typeAt m n ≡ Some (s, below) → missing m c ≡ false → Exactly s below → Formed below
       → checkFields m pick cells below s n (n + 1) c taken ≡ Ok t → Agrees (close (converter m cells) s n c (results below s n (n + 1) c) t) (ownHook m cells s below n c t) (columnOf m pick s below n c)
-  close-agrees keeps filed mine (prim k) none n c taken t ty seen ex fo e = prim-agrees m pick cells k n c t ty seen
-  close-agrees keeps filed mine (prim k) (tree f below rest) n c taken t ty seen ex fo e = absurd ex
-  close-agrees keeps filed mine struct below n c taken t ty seen ex fo e = struct-agrees keeps mine below n c taken t ty seen e
-  close-agrees keeps filed mine list none n c taken t ty seen ex fo e = absurd ex
-  close-agrees keeps filed mine list (tree g under none) n c taken t ty seen ex fo e = list-agrees keeps g under n c t ty seen (step m pick cells g under none list n (n + 1) c taken t e .0)
-  close-agrees keeps filed mine list (tree g under (tree h over rest)) n c taken t ty seen ex fo e = absurd ex
-  close-agrees keeps filed mine map none n c taken t ty seen ex fo e = absurd ex
-  close-agrees keeps filed mine map (tree f kb none) n c taken t ty seen ex fo e = absurd ex
-  close-agrees keeps filed mine map (tree f kb (tree g vb none)) n c taken t ty seen ex fo e =
-      map-agrees keeps filed f g kb vb n c t ty seen (step m pick cells f kb (tree g vb none) map n (n + 1) c taken t e .0) ex (fo .0)
-  close-agrees keeps filed mine map (tree f kb (tree g vb (tree h over rest))) n c taken t ty seen ex fo e = absurd ex
+  close-agrees keeps mine (prim k) none n c taken t ty seen ex fo e = prim-agrees m pick cells k n c t ty seen
+  close-agrees keeps mine (prim k) (tree f below rest) n c taken t ty seen ex fo e = absurd ex
+  close-agrees keeps mine struct below n c taken t ty seen ex fo e = struct-agrees keeps mine below n c taken t ty seen e
+  close-agrees keeps mine list none n c taken t ty seen ex fo e = absurd ex
+  close-agrees keeps mine list (tree g under none) n c taken t ty seen ex fo e = list-agrees keeps g under n c t ty seen (step m pick cells g under none list n (n + 1) c taken t e .0)
+  close-agrees keeps mine list (tree g under (tree h over rest)) n c taken t ty seen ex fo e = absurd ex
+  close-agrees keeps mine map none n c taken t ty seen ex fo e = absurd ex
+  close-agrees keeps mine map (tree f kb none) n c taken t ty seen ex fo e = absurd ex
+  close-agrees keeps mine map (tree f kb (tree g vb none)) n c taken t ty seen ex fo e =
+      map-agrees keeps f g kb vb n c t ty seen (step m pick cells f kb (tree g vb none) map n (n + 1) c taken t e .0) ex (fo .0)
+  close-agrees keeps mine map (tree f kb (tree g vb (tree h over rest))) n c taken t ty seen ex fo e = absurd ex
 
   -- `field`: the nulls of a required field's result are those of its column, at the slots of the struct that holds it
-  module _ (keeps : Enough m) (mine : Own m pick) (f : Field) (below : Forest Field) (c n : ℕ) (kind : Kind m pick cells struct c n) where
+  module _ (keeps : Premises m) (mine : Own m pick) (f : Field) (below : Forest Field) (c n : ℕ) (kind : Kind m pick cells struct c n) where
     abbrev mate : ℕ
     mate = orZero (pick c n)
 
@@ -401,7 +401,7 @@ module _ (m : Model) (pick : Pick) (cells : ℕ) where
   target-found mine map up n c kind = found-kid m c (cond (eqb n (up + 1)) 0 1)
 
   -- what follows a field's type: `field` for a struct's field, and nothing for an element, a key or a value
-  pub finish-agrees : Enough m → Own m pick → (s : Shape) (f : Field) (below : Forest Field) (up n c t : ℕ) → Kind m pick cells s c n → fieldAt m n ≡ Some (f, below)
+  pub finish-agrees : Premises m → Own m pick → (s : Shape) (f : Field) (below : Forest Field) (up n c t : ℕ) → Kind m pick cells s c n → fieldAt m n ≡ Some (f, below)
       → Agrees (finish (converter m cells) (role s up n) n (target m pick cells s up c n) (columnOf m pick (f .shape) below n (target m pick cells s up c n)) t)
       (fieldHook m s f n c (target m pick cells s up c n) t) (columnOf m pick (f .shape) below n (target m pick cells s up c n))
   finish-agrees keeps mine (prim k) f below up n c t kind e = absurd kind

@@ -1,4 +1,4 @@
--- The rules of a batch in hand on which the law of rows rests, and no more of them.
+-- What the proofs of the laws use of the rules, by the numbers of columns.
 use mathlib.Core.Path.{_≡_}
 use mathlib.Core.Bool.{true}
 use Prim.Native.Nat.{ℕ, _+_, _/_, _≤_, _<_}
@@ -7,27 +7,30 @@ use Rattle.meaning.specs.Forest.{Forest, none, tree, size}
 use Rattle.meaning.specs.Model.{Model, Column, Field, Shape, prim, struct, list, map, Code, bits, words, variable, fixedSizeBinary, structs, lists, largeLists, fixedSizeLists, maps, at}
 use Rattle.meaning.specs.Lists.{among}
 use Rattle.meaning.specs.Codes.{struct?, map?}
+use Rattle.meaning.specs.Keeps.{Bytes, Plain}
 use Rattle.meaning.specs.Access.{kids}
 
-abbrev pub Plain : Shape → Type 0
-Plain (prim p) = Unit {0}
-Plain struct = ⊥
-Plain list = ⊥
-Plain map = ⊥
+-- a primitive type holds no field, a list type one, and a map type a key field of a primitive type and a value field
+abbrev pub Exactly : Shape → Forest Field → Type 0
+Exactly (prim p) none = Unit {0}
+Exactly (prim p) (tree f below rest) = ⊥
+Exactly struct fs = Unit {0}
+Exactly list none = ⊥
+Exactly list (tree f below none) = Unit {0}
+Exactly list (tree f below (tree g under rest)) = ⊥
+Exactly map none = ⊥
+Exactly map (tree f below none) = ⊥
+Exactly map (tree f below (tree g under none)) = Plain (f .shape)
+Exactly map (tree f below (tree g under (tree h over rest))) = ⊥
 
--- a list type holds a field; a map type holds a key field of a primitive type, and a value field
-abbrev pub Holds : Shape → Forest Field → Type 0
-Holds (prim p) fs = Unit {0}
-Holds struct fs = Unit {0}
-Holds list none = ⊥
-Holds list (tree f below rest) = Unit {0}
-Holds map none = ⊥
-Holds map (tree f below none) = ⊥
-Holds map (tree f below (tree g under rest)) = Plain (f .shape)
+-- every type of the schema
+abbrev pub Formed : Forest Field → Type 0
+Formed none = Unit {0}
+Formed (tree f below rest) = Exactly (f .shape) below × Formed below × Formed rest
 
-abbrev pub Shaped : Forest Field → Type 0
-Shaped none = Unit {0}
-Shaped (tree f below rest) = Holds (f .shape) below × Shaped below × Shaped rest
+pub key-plain : (f g : Field) (below under rest : Forest Field) → Exactly map (tree f below (tree g under rest)) → Plain (f .shape)
+key-plain f g below under none e = e
+key-plain f g below under (tree h over rest) e = absurd e
 
 -- offsets that do not fall, and that end within the child, whose length is l
 pub record Ascends (x : Column) (l : ℕ) : Type 0 where
@@ -46,8 +49,8 @@ Cutting largeLists x l = Ascends x l
 Cutting (fixedSizeLists s) x l = x .len ≡ l / s
 Cutting maps x l = Ascends x l
 
-pub record Enough (m : Model) : Type 0 where
-  pub shaped : Shaped (m .fields)
+pub record Premises (m : Model) : Type 0 where
+  pub formed : Formed (m .fields)
   pub few : size (m .fields) ≤ 256
   pub short : (c : ℕ) → at m c .len ≤ 65536
   -- a struct's children have its length
@@ -55,3 +58,4 @@ pub record Enough (m : Model) : Type 0 where
   pub cutting : (c : ℕ) → Cutting (at m c .code) (at m c) (at m (getD (kids m c) 0 0) .len)
   -- a map's value column has its key column's length
   pub paired : (c : ℕ) → map? m c ≡ true → at m (getD (kids m c) 1 0) .len ≡ at m (getD (kids m c) 0 0) .len
+  pub bytes : (c : ℕ) → Bytes (at m c .body)
