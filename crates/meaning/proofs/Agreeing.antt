@@ -12,9 +12,9 @@ use Rattle.std.specs.declared.result.Result.the-variants.{Ok, Err}
 use Rattle.meaning.specs.Model.{Model}
 use Rattle.meaning.specs.Access.{Pick, StepFault, fault}
 use Rattle.meaning.specs.Converts.{takes, andThen}
-use Rattle.meaning.specs.Walk.{Step, ret, missing, bindResult}
+use Rattle.meaning.specs.Walk.{Step, ret, missing, bindResult, refuseIf, orRefuse}
 use Rattle.meaning.specs.Literals.{Value}
-use Rattle.meaning.specs.Converter.{sought, taking, refuseIf, orRefuse}
+use Rattle.meaning.specs.Converter.{sought, taking}
 
 abbrev pub Agrees : {X : Type 0} → Result X StepFault × ℕ → Result ℕ StepFault → X → Type 0
 Agrees x (Ok t) v = x ≡ (Ok v, t)

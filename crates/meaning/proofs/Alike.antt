@@ -13,9 +13,8 @@ use Rattle.meaning.specs.Model.{Column, Primitive, boolean, int, long, float, 
 use Rattle.meaning.specs.Items.{little, signed}
 use Rattle.meaning.specs.Slots.{stored}
 use Rattle.meaning.specs.Equal.{sameInteger}
-use Rattle.meaning.specs.Literals.{primitiveLiteral, sameKey}
+use Rattle.meaning.specs.Literals.{primitiveLiteral, sameKey, sameLiteral}
 use Rattle.meaning.specs.Keeps.{Bytes}
-use Rattle.meaning.specs.Converter.{sameLiteral}
 
 -- what w bytes can hold
 abbrev top : ℕ → ℕ

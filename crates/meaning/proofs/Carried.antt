@@ -11,8 +11,8 @@ use Rattle.meaning.specs.Rows.{rows}
 use Rattle.meaning.specs.Converts.{converts}
 use Rattle.meaning.proofs.Premises.{Premises}
 use Rattle.meaning.specs.Walk.{Hooks, visitStruct}
-use Rattle.meaning.specs.Literals.{Value}
-use Rattle.meaning.specs.Converter.{listed, converter, conversion}
+use Rattle.meaning.specs.Literals.{Value, listed}
+use Rattle.meaning.specs.Converter.{converter, conversion}
 use Rattle.meaning.proofs.Alongside.{Ties, Both, Alongside}
 use Rattle.meaning.proofs.Converting.{converted}
 use Rattle.meaning.proofs.Beside.{both-struct}

@@ -11,13 +11,13 @@ use Rattle.meaning.specs.Forest.{Forest, none, tree, size}
 use Rattle.meaning.specs.Model.{Model, Field, Shape, struct}
 use Rattle.meaning.specs.Lists.{upto}
 use Rattle.meaning.specs.Access.{Pick, Own, StepFault, partner}
-use Rattle.meaning.specs.Literals.{nullLiteral, structLiteral, Value}
+use Rattle.meaning.specs.Literals.{nullLiteral, structLiteral, Value, listed}
 use Rattle.meaning.specs.Rows.{joined, parts, row, rows}
 use Rattle.meaning.specs.Converts.{fieldHook, converts, ownHook, checkFields, andThen}
 use Rattle.meaning.proofs.KeepsPremises.{keeps-premises}
 use Rattle.meaning.proofs.Premises.{Premises, Formed}
 use Rattle.meaning.specs.Walk.{Step, ret, bind, role, close, finish, walk, bindResult, visitStruct}
-use Rattle.meaning.specs.Converter.{listed, converter, conversion, Converted, Converted-law}
+use Rattle.meaning.specs.Converter.{converter, conversion, Converted, Converted-law}
 use Rattle.meaning.proofs.Accepted.{target, Kind, partner-kind}
 use Rattle.meaning.proofs.Places.{Placed, placed-all, placed-here, placed-type, placed-below, placed-rest}
 use Rattle.meaning.proofs.Everywhere.{all-upto, each-ext}

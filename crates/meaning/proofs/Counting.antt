@@ -18,9 +18,8 @@ use Rattle.meaning.specs.Codes.{float?}
 use Rattle.meaning.specs.Nans.{nans}
 use Rattle.meaning.specs.Reaches.{Reach, Found, reaches, reached, followedBy, atPartner, oneReach, shownWithin}
 use Rattle.meaning.specs.Table.{hasRoom, Table, added, Answer, addReaches}
-use Rattle.meaning.specs.Walk.{Step, ret, bind, Role, structField, listElement, mapKey, mapValue, role, fieldAt, missing, close, finish, walk, bindResult}
+use Rattle.meaning.specs.Walk.{Step, ret, bind, Role, structField, listElement, mapKey, mapValue, role, fieldAt, missing, close, finish, walk, bindResult, refuseIf}
 use Rattle.meaning.proofs.Premises.{Exactly, Formed}
-use Rattle.meaning.specs.Converter.{refuseIf}
 use Rattle.meaning.specs.Counter.{counter, Counted-law, countReach, countReachBy, computeWalk}
 use Rattle.meaning.proofs.Accepted.{partner-kind}
 use Rattle.meaning.proofs.Steps.{target-found}

@@ -11,9 +11,9 @@ use Rattle.meaning.specs.Model.{Column}
 use Rattle.meaning.specs.Slots.{spanSlots}
 use Rattle.meaning.specs.Lists.{anyOf}
 use Rattle.meaning.specs.Equal.{sameInteger, sameBytes, sameBoolean}
-use Rattle.meaning.specs.Literals.{Literal, nullLiteral, booleanLiteral, intLiteral, longLiteral, floatLiteral, doubleLiteral, bytesLiteral, structLiteral, listLiteral, mapLiteral, same32, same64, Value}
+use Rattle.meaning.specs.Literals.{Literal, nullLiteral, booleanLiteral, intLiteral, longLiteral, floatLiteral, doubleLiteral, bytesLiteral, structLiteral, listLiteral, mapLiteral, same32, same64, Value, sameLiteral}
 use Rattle.meaning.specs.Rows.{lastSame, keptFrom, kept}
-use Rattle.meaning.specs.Converter.{slot, sameLiteral, keptPairs}
+use Rattle.meaning.specs.Converter.{slot, keptPairs}
 use Rattle.meaning.proofs.Inserted.{inserted, insertedAll}
 use Rattle.meaning.proofs.Keys.{Alike, numbers, bytes, truths, singles, doubles}
 use Rattle.meaning.proofs.Everywhere.{All}

@@ -17,7 +17,8 @@ use Rattle.meaning.specs.Reaches.{reached}
 use Rattle.meaning.specs.Table.{countOf}
 use Rattle.meaning.specs.CounterLaw.{Call, computes, rowNans, hiddenNansOf}
 use Rattle.meaning.specs.Keeps.{Keeps, ColumnsKeep}
-use Rattle.meaning.specs.Converter.{listed, conversion}
+use Rattle.meaning.specs.Literals.{listed}
+use Rattle.meaning.specs.Converter.{conversion}
 use Rattle.meaning.proofs.Converting.{converted-law}
 
 -- one map of Float to Double: keys NaN, 1, another NaN; values NaN, NaN, 1

@@ -15,13 +15,13 @@ use Rattle.meaning.specs.Lists.{upto, anyOf, sum, orZero}
 use Rattle.meaning.specs.Slots.{null, span, spanSlots}
 use Rattle.meaning.specs.Codes.{struct?, list?, map?}
 use Rattle.meaning.specs.Access.{Pick, Own, fault, kids}
-use Rattle.meaning.specs.Literals.{nullLiteral, structLiteral, listLiteral, mapLiteral, Values, primitiveLiteral, literalBy, literalAt, sameBy, Value}
+use Rattle.meaning.specs.Literals.{nullLiteral, structLiteral, listLiteral, mapLiteral, Values, primitiveLiteral, literalBy, literalAt, sameBy, Value, isNullLiteral, sameLiteral, putBefore}
 use Rattle.meaning.specs.Rows.{joined, kept, parts}
 use Rattle.meaning.specs.Converts.{accepts, takes, fieldHook, nullInSpans, ownHook, checkFields}
 use Rattle.meaning.specs.Keeps.{Plain, Bytes}
 use Rattle.meaning.proofs.Premises.{Cutting, Premises, Exactly, Formed}
-use Rattle.meaning.specs.Walk.{Step, mapKey, mapValue, role, fieldAt, typeAt, missing, close, finish}
-use Rattle.meaning.specs.Converter.{slot, primOf, structOf, listOf, mapOf, requiredOf, holder, pastEnd, elements, entries, pairCells, uneven, taking, fieldStep, converter, isNullLiteral, sameLiteral, putBefore, refuseIf, nullInSpan, listRows, rowValues, fieldParts, keptPairs, nullRequired}
+use Rattle.meaning.specs.Walk.{Step, mapKey, mapValue, role, fieldAt, typeAt, missing, close, finish, refuseIf}
+use Rattle.meaning.specs.Converter.{slot, primOf, structOf, listOf, mapOf, requiredOf, holder, pastEnd, elements, entries, pairCells, uneven, taking, fieldStep, converter, nullInSpan, listRows, rowValues, fieldParts, keptPairs, nullRequired}
 use Rattle.meaning.proofs.Totals.{Cuts}
 use Rattle.meaning.proofs.Spans.{list-cuts, map-cuts}
 use Rattle.meaning.proofs.Accepted.{target, Kind, step}

@@ -10,12 +10,12 @@ use Rattle.std.specs.declared.result.Result.the-variants.{Ok, Err}
 use Rattle.meaning.specs.Forest.{none, tree}
 use Rattle.meaning.specs.Model.{Model, Column, prim, list, int, float, words, lists, fixedSizeLists, int32, float32}
 use Rattle.meaning.specs.Access.{fault}
-use Rattle.meaning.specs.Literals.{intLiteral, floatLiteral, primitiveLiteral, sameKey, Value}
+use Rattle.meaning.specs.Literals.{intLiteral, floatLiteral, primitiveLiteral, sameKey, Value, sameLiteral}
 use Rattle.meaning.specs.Picks.{byId}
 use Rattle.meaning.specs.Converts.{converts}
 use Rattle.meaning.specs.Samples.{structValue, listValue, mapValue, sampleField, sampleColumn, intColumn, pairsSample, listsSample, structSample, besideSample, intValue, nullValue}
 use Rattle.meaning.specs.Reaches.{reached}
-use Rattle.meaning.specs.Converter.{fieldStep, primitiveStep, structStep, listStep, mapStep, conversion, sameLiteral}
+use Rattle.meaning.specs.Converter.{fieldStep, primitiveStep, structStep, listStep, mapStep, conversion}
 use Rattle.meaning.specs.Table.{Table}
 use Rattle.meaning.specs.Counter.{computeWalk}
 

@@ -1,4 +1,4 @@
--- The converter's hooks, on lists of values instead of runs of cells.
+-- The converter's hooks, on lists of values, and the law that its walk gives the rows.
 use mathlib.Core.Path.{_≡_}
 use mathlib.Core.List.{List, [], _∷_, map as each}
 use mathlib.Core.Bool.{Bool, true, false, cond, not, _&&_}
@@ -15,51 +15,17 @@ use Rattle.meaning.specs.Lists.{upto, anyOf, sum}
 use Rattle.meaning.specs.Slots.{null, span, spanSlots}
 use Rattle.meaning.specs.Codes.{struct?, list?, map?}
 use Rattle.meaning.specs.Access.{Pick, Own, StepFault, fault}
-use Rattle.meaning.specs.Equal.{sameInteger, sameBytes, sameBoolean}
-use Rattle.meaning.specs.Literals.{Literal, nullLiteral, booleanLiteral, intLiteral, longLiteral, floatLiteral, doubleLiteral, bytesLiteral, structLiteral, listLiteral, mapLiteral, Values, literalAt, same32, same64, Value}
+use Rattle.meaning.specs.Literals.{Literal, nullLiteral, structLiteral, listLiteral, mapLiteral, Values, literalAt, Value, isNullLiteral, sameLiteral, putBefore, listed}
 use Rattle.meaning.specs.Rows.{joined, kept, rows}
 use Rattle.meaning.specs.Converts.{accepts, converts, firstRequired, afterFirst}
 use Rattle.meaning.specs.Keeps.{Keeps}
-use Rattle.meaning.specs.Walk.{Step, ret, refuse, Hooks, fieldAt, typeAt, missing, visitStruct}
+use Rattle.meaning.specs.Walk.{Step, ret, Hooks, fieldAt, typeAt, missing, visitStruct, refuseIf, orRefuse}
 
-abbrev pub isNullLiteral : Literal → Bool
-isNullLiteral nullLiteral = true
-isNullLiteral (booleanLiteral b) = false
-isNullLiteral (intLiteral z) = false
-isNullLiteral (longLiteral z) = false
-isNullLiteral (floatLiteral b) = false
-isNullLiteral (doubleLiteral b) = false
-isNullLiteral (bytesLiteral bs) = false
-isNullLiteral structLiteral = false
-isNullLiteral listLiteral = false
-isNullLiteral mapLiteral = false
-
--- a result's value at a slot
+-- a result's value at a slot; a result is the list of the values of a column's slots
 abbrev pub slot : List Value → ℕ → Value
 slot t i = getD t i (nullLiteral, none)
 
--- a value beside others
-abbrev pub putBefore : Value → Values → Values
-putBefore v rest = tree (v .0) (v .1) rest
-
--- a forest of values, as a list of them
-abbrev pub listed : Values → List Value
-listed none = []
-listed (tree x ps rest) = (x, ps) ∷ listed rest
-
-abbrev pub sameLiteral : Literal → Literal → Bool
-sameLiteral (booleanLiteral a) y = elim y [ booleanLiteral b ↦ sameBoolean a b | nullLiteral ↦ false | intLiteral z ↦ false | longLiteral z ↦ false | floatLiteral b ↦ false | doubleLiteral b ↦ false | bytesLiteral bs ↦ false | structLiteral ↦ false | listLiteral ↦ false | mapLiteral ↦ false ]
-sameLiteral (intLiteral a) y = elim y [ intLiteral b ↦ sameInteger a b | nullLiteral ↦ false | booleanLiteral b ↦ false | longLiteral z ↦ false | floatLiteral b ↦ false | doubleLiteral b ↦ false | bytesLiteral bs ↦ false | structLiteral ↦ false | listLiteral ↦ false | mapLiteral ↦ false ]
-sameLiteral (longLiteral a) y = elim y [ longLiteral b ↦ sameInteger a b | nullLiteral ↦ false | booleanLiteral b ↦ false | intLiteral z ↦ false | floatLiteral b ↦ false | doubleLiteral b ↦ false | bytesLiteral bs ↦ false | structLiteral ↦ false | listLiteral ↦ false | mapLiteral ↦ false ]
-sameLiteral (floatLiteral a) y = elim y [ floatLiteral b ↦ same32 a b | nullLiteral ↦ false | booleanLiteral b ↦ false | intLiteral z ↦ false | longLiteral z ↦ false | doubleLiteral b ↦ false | bytesLiteral bs ↦ false | structLiteral ↦ false | listLiteral ↦ false | mapLiteral ↦ false ]
-sameLiteral (doubleLiteral a) y = elim y [ doubleLiteral b ↦ same64 a b | nullLiteral ↦ false | booleanLiteral b ↦ false | intLiteral z ↦ false | longLiteral z ↦ false | floatLiteral b ↦ false | bytesLiteral bs ↦ false | structLiteral ↦ false | listLiteral ↦ false | mapLiteral ↦ false ]
-sameLiteral (bytesLiteral a) y = elim y [ bytesLiteral b ↦ sameBytes a b | nullLiteral ↦ false | booleanLiteral b ↦ false | intLiteral z ↦ false | longLiteral z ↦ false | floatLiteral b ↦ false | doubleLiteral b ↦ false | structLiteral ↦ false | listLiteral ↦ false | mapLiteral ↦ false ]
-sameLiteral nullLiteral y = false
-sameLiteral structLiteral y = false
-sameLiteral listLiteral y = false
-sameLiteral mapLiteral y = false
-
--- what a hook asks of the field it is given: a primitive type; a struct type; a list type, and whether its element is required; a map type, and whether its value is
+-- what a hook asks of the field it is given: for `primitive` a primitive type
 abbrev pub primOf : Option (Shape × Forest Field) → Option Primitive
 primOf None = None
 primOf (Some (prim p, fs)) = Some p
@@ -67,6 +33,7 @@ primOf (Some (struct, fs)) = None
 primOf (Some (list, fs)) = None
 primOf (Some (map, fs)) = None
 
+-- for `struct` a struct type
 abbrev pub structOf : Option (Shape × Forest Field) → Option (Unit {0})
 structOf None = None
 structOf (Some (prim p, fs)) = None
@@ -74,6 +41,7 @@ structOf (Some (struct, fs)) = Some tt
 structOf (Some (list, fs)) = None
 structOf (Some (map, fs)) = None
 
+-- for `list` a list type, and whether its element is required
 abbrev pub listOf : Option (Shape × Forest Field) → Option Bool
 listOf None = None
 listOf (Some (prim p, fs)) = None
@@ -81,6 +49,7 @@ listOf (Some (struct, fs)) = None
 listOf (Some (list, fs)) = Some (firstRequired fs)
 listOf (Some (map, fs)) = None
 
+-- for `map` a map type, and whether its value is required
 abbrev pub mapOf : Option (Shape × Forest Field) → Option Bool
 mapOf None = None
 mapOf (Some (prim p, fs)) = None
@@ -88,20 +57,12 @@ mapOf (Some (struct, fs)) = None
 mapOf (Some (list, fs)) = None
 mapOf (Some (map, fs)) = Some (firstRequired (afterFirst fs))
 
+-- for `field` any field, and whether it is required
 abbrev pub requiredOf : Option (Field × Forest Field) → Option Bool
 requiredOf None = None
 requiredOf (Some (f, below)) = Some (f .required)
 
--- the step on what was found, or a refusal; and a refusal where a test holds
-abbrev pub orRefuse : {X Y S : Type 0} → Option X → StepFault → (X → Step S Y) → Step S Y
-orRefuse None e k = refuse e
-orRefuse (Some x) e k = k x
-
-abbrev pub refuseIf : {Y S : Type 0} → Bool → StepFault → Step S Y → Step S Y
-refuseIf true e k = refuse e
-refuseIf false e k = k
-
--- a hook's first question: a field of the kind that the hook is for, and a column
+-- a hook's first question: a field of the kind that the hook is for, and a column; else refusal 9
 abbrev pub sought : {X Y : Type 0} → Model → Option X → ℕ → ℕ → (X → Step ℕ Y) → Step ℕ Y
 sought m o n c k = orRefuse o (fault 9 c n) (λ x. refuseIf (missing m c) (fault 9 c n) (k x))
 
@@ -110,6 +71,7 @@ abbrev pub holderIn : ℕ → ℕ → ℕ → Forest Column → ℕ
 holderIn k up n none = up
 holderIn k up n (tree x below rest) = cond (eqb k n) up (cond (ltb k (n + 1 + size below)) (holderIn k n (n + 1) below) (holderIn k up (n + 1 + size below) rest))
 
+-- the column whose child column k is
 abbrev pub holder : Model → ℕ → ℕ
 holder m k = holderIn k 0 1 (m .columns)
 
@@ -125,23 +87,24 @@ listRows largeLists len l = len
 listRows (fixedSizeLists s) len l = l / s
 listRows maps len l = len
 
--- the spans of a column's first slots: one that ends past a result; a null of a result in the span of a slot that is not null
+-- the span of one of the column's first slots, null or not, ends past a result of length l
 abbrev pub pastEnd : Column → ℕ → ℕ → Bool
 pastEnd x rows l = anyOf (λ i. ltb l (span x i .1)) (upto rows)
 
+-- a null of a result in the span of a slot that is not null
 abbrev pub nullInSpan : Column → ℕ → List Value → Bool
 nullInSpan x rows t = anyOf (λ i. not (null x i) && anyOf (λ j. isNullLiteral (slot t j .0)) (spanSlots x i)) (upto rows)
 
--- a row for each of so many slots: null where the slot is null, else this item over these parts
+-- a row for each of so many slots: null where the slot is null, else this literal over these parts
 abbrev pub rowValues : Column → ℕ → Literal → (ℕ → Values) → List Value
-rowValues x rows it below = each (λ i. (cond (null x i) nullLiteral it, cond (null x i) none (below i))) (upto rows)
+rowValues x rows l below = each (λ i. (cond (null x i) nullLiteral l, cond (null x i) none (below i))) (upto rows)
 
 -- a struct's parts at a slot: the slot's value in each field's result
 abbrev pub fieldParts : List (List Value) → ℕ → Values
 fieldParts [] i = none
 fieldParts (t ∷ ts) i = putBefore (slot t i) (fieldParts ts i)
 
--- a list's parts: the values of the element result that the slot cuts out
+-- a list's parts at a slot: the values of the element result in its span
 abbrev pub elements : Column → List Value → ℕ → Values
 elements x t i = joined (λ j. putBefore (slot t j) none) (spanSlots x i)
 
@@ -149,6 +112,7 @@ elements x t i = joined (λ j. putBefore (slot t j) none) (spanSlots x i)
 abbrev pub keptPairs : Column → List Value → ℕ → List (ℕ × ℕ)
 keptPairs x ks i = kept (λ a b. sameLiteral (slot ks a .0) (slot ks b .0)) (spanSlots x i)
 
+-- a map's parts at a slot: the keys and values of its kept pairs, in turn
 abbrev pub entries : Column → List Value → List Value → ℕ → Values
 entries x ks vs i = joined (λ (kv : ℕ × ℕ). putBefore (slot ks (kv .0)) (putBefore (slot vs (kv .1)) none)) (keptPairs x ks i)
 
@@ -162,7 +126,7 @@ uneven l [] = false
 uneven l (t ∷ ts) = cond (eqb (length t) l) (uneven l ts) true
 
 module _ (m : Model) (cells : ℕ) where
-  -- so many more cells, if they fit
+  -- so many more cells for a result, or refusal 21 where they do not fit
   abbrev pub taking : ℕ → ℕ → ℕ → List Value → Step ℕ (List Value)
   taking n c more t taken = cond (leb (taken + more) cells) (Ok t, taken + more) (Err (fault 21 c n), taken)
 
@@ -170,18 +134,21 @@ module _ (m : Model) (cells : ℕ) where
   abbrev pub nullRequired : ℕ → List Value → Bool
   nullRequired c t = anyOf (λ i. not (struct? m (holder m c) && null (at m (holder m c)) i) && isNullLiteral (slot t i .0)) (upto (length t))
 
+  -- `field`: a null of a required field is refused (15)
   abbrev pub fieldStep : ℕ → ℕ → List Value → Step ℕ (List Value)
   fieldStep n c t =
       sought m (requiredOf (fieldAt m n)) n c (λ required.
       refuseIf (required && nullRequired c t) (fault 15 c n)
       (ret t))
 
+  -- `primitive`: a column code that the type does not accept is refused (14); a literal and a cell for each slot
   abbrev pub primitiveStep : ℕ → ℕ → Step ℕ (List Value)
   primitiveStep n c =
       sought m (primOf (typeAt m n)) n c (λ p.
       refuseIf (not (accepts p (at m c .code))) (fault 14 c n)
       (taking n c (at m c .len) (each (λ i. (literalAt (prim p) (at m c) i, none)) (upto (at m c .len)))))
 
+  -- `struct`: field results of another length are refused (17), then a struct type without fields at a column that is no struct (14); a row for each slot
   abbrev pub structStep : ℕ → ℕ → List (List Value) → Step ℕ (List Value)
   structStep n c ts =
       sought m (structOf (typeAt m n)) n c (λ _.
@@ -189,6 +156,7 @@ module _ (m : Model) (cells : ℕ) where
       (refuseIf (eqb (length ts) 0 && not (struct? m c)) (fault 14 c n)
       (taking n c (at m c .len + length ts * at m c .len) (rowValues (at m c) (at m c .len) structLiteral (fieldParts ts)))))
 
+  -- `list`: a column that is no list is refused (12), then a span past the result (20), then a null of a required element in a span (16); a row for each slot
   abbrev pub listStep : ℕ → ℕ → List Value → Step ℕ (List Value)
   listStep n c t =
       let rows : ℕ = listRows (at m c .code) (at m c .len) (length t) in
@@ -198,6 +166,7 @@ module _ (m : Model) (cells : ℕ) where
       (refuseIf (required && nullInSpan (at m c) rows t) (fault 16 c n)
       (taking n c rows (rowValues (at m c) rows listLiteral (elements (at m c) t))))))
 
+  -- `map`: a column that is no map is refused (13), then uneven results (18), a span past them (20), a null key in a span (19), a null of a required value in a span (16); a row for each slot
   abbrev pub mapStep : ℕ → ℕ → List Value → List Value → Step ℕ (List Value)
   mapStep n c ks vs =
       let rows : ℕ = at m c .len in
@@ -225,11 +194,14 @@ module _ (m : Model) (cells : ℕ) where
 abbrev pub conversion : Model → Pick → ℕ → Result (List Value) StepFault × ℕ
 conversion m pick cells = visitStruct m pick (converter m cells) 0 0
 
--- the walk gives the rows and takes the cells of `converts`, and it refuses exactly as `converts` does
+-- what the walk makes of a batch, through a pick and with so many cells
 pub record Converted (m : Model) (pick : Pick) (cells : ℕ) : Type 0 where
+  -- where `converts` accepts, the walk gives the rows and takes the cells that it says
   pub accepted : (t : ℕ) → converts m pick cells ≡ Ok t → conversion m pick cells ≡ (Ok (listed (rows m pick)), t)
+  -- and it refuses exactly where `converts` does, with the same fault
   pub refused : (f : StepFault) → converts m pick cells ≡ Err f → conversion m pick cells .0 ≡ Err f
   pub exactly : (f : StepFault) → conversion m pick cells .0 ≡ Err f → converts m pick cells ≡ Err f
 
+-- of every batch that keeps the rules, through every accessor
 abbrev pub Converted-law : Type 0
 Converted-law = (m : Model) → Keeps m → (pick : Pick) → Own m pick → (cells : ℕ) → Converted m pick cells

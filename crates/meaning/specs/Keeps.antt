@@ -1,4 +1,4 @@
--- The rules that a batch keeps. A file of at most 1,048,576 bytes is accepted exactly if it encodes a batch that keeps them (Accepts).
+-- The rules that a batch keeps: limits, what types hold, and the layouts of the Arrow columnar format.
 use mathlib.Core.Path.{_≡_}
 use mathlib.Core.List.{List, [], _∷_}
 use Prim.Native.Nat.{ℕ, _+_, _-_, _*_, _/_, _^_, _≤_, _<_, max}
@@ -17,10 +17,11 @@ abbrev pub levels : {H : Type 0} → Forest H → ℕ
 levels none = 0
 levels (tree h kids rest) = max (1 + levels kids) (levels rest)
 
+-- numbers below 256
 abbrev pub Bytes : List ℕ → Type 0
 Bytes bs = All (λ b. b < 256) bs
 
--- a name or an id text
+-- a name or an id text: at most 255 bytes
 abbrev pub Short : List ℕ → Type 0
 Short bs = (length bs ≤ 255) × Bytes bs
 
@@ -47,7 +48,7 @@ Sized uuid = Unit {0}
 Sized (fixed n) = n ≤ 65536
 Sized binary = Unit {0}
 
--- a primitive type
+-- what a key's type must be: primitive
 abbrev pub Plain : Shape → Type 0
 Plain (prim p) = Unit {0}
 Plain struct = ⊥
@@ -107,12 +108,12 @@ Bodied (fixedSizeLists s) x below =
 Bodied maps x below =
     Cuts 4 x × (x .body ≡ []) × (count below ≡ 2) × Lengths (Within (x .offsets)) below × Lengths (λ k. k ≡ firstLen below) below
 
--- what is there keeps a rule
+-- what may be absent keeps a rule where it is there
 abbrev pub Optional : (List ℕ → Type 0) → Option (List ℕ) → Type 0
 Optional P None = Unit {0}
 Optional P (Some bs) = P bs
 
--- validity bits
+-- validity bits: (len + 7) / 8 bytes of them
 abbrev pub Validity : ℕ → List ℕ → Type 0
 Validity len bs = (length bs ≡ (len + 7) / 8) × Bytes bs
 
@@ -123,14 +124,19 @@ ColumnsKeep (tree x below rest) =
     Short (x .name) × Optional Short (x .idText) × (x .len ≤ 65536) × Optional (Validity (x .len)) (x .validity) × Bodied (x .code) x below
     × ColumnsKeep below × ColumnsKeep rest
 
--- a batch: its limits, its fields, its columns, and that the top columns are as long as it has rows
+-- the rules of a batch
 pub record Keeps (m : Model) : Type 0 where
+  -- at most 65,536 rows
   pub rows : m .rows ≤ 65536
+  -- at most 256 fields, at most 16 levels of them, and every field keeps its rules
   pub fewFields : size (m .fields) ≤ 256
   pub fieldLevels : levels (m .fields) ≤ 16
   pub fields : FieldsKeep (m .fields)
+  -- at most 256 columns, at most 16 levels of them, and every column keeps its rules
   pub fewColumns : size (m .columns) ≤ 256
   pub columnLevels : levels (m .columns) ≤ 16
   pub columns : ColumnsKeep (m .columns)
+  -- the top columns are as long as the batch has rows
   pub lengths : Lengths (λ k. k ≡ m .rows) (m .columns)
+  -- the file has at most 1,048,576 bytes
   pub small : length (encode m) ≤ 1048576

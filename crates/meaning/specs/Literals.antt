@@ -1,14 +1,14 @@
--- The literal at a slot, by the type's shape, and which keys of a map are one key.
-use mathlib.Core.List.{List}
-use mathlib.Core.Bool.{Bool, cond, not, _&&_, _||_}
+-- Literals: the value at a slot, by the type's shape, and which keys of a map are one key.
+use mathlib.Core.List.{List, [], _∷_}
+use mathlib.Core.Bool.{Bool, true, false, cond, not, _&&_, _||_}
 use Prim.Native.Nat.{ℕ, _-_}
 use lib.Dec.{eqb}
 use lib.IntN.{ℤ}
 use lib.ListN.{take, drop}
-use Rattle.meaning.specs.Forest.{Forest}
+use Rattle.meaning.specs.Forest.{Forest, none, tree}
 use Rattle.meaning.specs.Model.{Column, Shape, prim, struct, list, map, Primitive, boolean, int, long, float, double, date, time, timestamp, timestamptz, timestampNs, timestamptzNs, string, uuid, fixed, binary}
 use Rattle.meaning.specs.Items.{signed}
-use Rattle.meaning.specs.Equal.{sameBytes, sameBoolean}
+use Rattle.meaning.specs.Equal.{sameInteger, sameBytes, sameBoolean}
 use Rattle.meaning.specs.Slots.{null, bit, span, stored, nan32, nan64}
 
 -- a value without its parts, which stand below it: a struct's fields, a list's elements, a map's keys and values in turn.
@@ -32,6 +32,15 @@ Values = Forest Literal
 -- a value whole: its literal, and its parts
 abbrev pub Value : Type 0
 Value = Literal × Values
+
+-- a value beside others
+abbrev pub putBefore : Value → Values → Values
+putBefore v rest = tree (v .0) (v .1) rest
+
+-- values side by side, as a list of them
+abbrev pub listed : Values → List Value
+listed none = []
+listed (tree x ps rest) = (x, ps) ∷ listed rest
 
 -- the bytes of slot i of a text, binary or fixed-size binary column
 abbrev pub bytesAt : Column → ℕ → List ℕ
@@ -106,3 +115,29 @@ sameBy (prim p) x i j = sameKey p x i j
 sameBy struct x i j = eqb i j
 sameBy list x i j = eqb i j
 sameBy map x i j = eqb i j
+
+-- whether a literal is null
+abbrev pub isNullLiteral : Literal → Bool
+isNullLiteral nullLiteral = true
+isNullLiteral (booleanLiteral b) = false
+isNullLiteral (intLiteral z) = false
+isNullLiteral (longLiteral z) = false
+isNullLiteral (floatLiteral b) = false
+isNullLiteral (doubleLiteral b) = false
+isNullLiteral (bytesLiteral bs) = false
+isNullLiteral structLiteral = false
+isNullLiteral listLiteral = false
+isNullLiteral mapLiteral = false
+
+-- whether two literals are one key, by value: floats as above, everything else by content; a literal that is no primitive value is no key
+abbrev pub sameLiteral : Literal → Literal → Bool
+sameLiteral (booleanLiteral a) y = elim y [ booleanLiteral b ↦ sameBoolean a b | nullLiteral ↦ false | intLiteral z ↦ false | longLiteral z ↦ false | floatLiteral b ↦ false | doubleLiteral b ↦ false | bytesLiteral bs ↦ false | structLiteral ↦ false | listLiteral ↦ false | mapLiteral ↦ false ]
+sameLiteral (intLiteral a) y = elim y [ intLiteral b ↦ sameInteger a b | nullLiteral ↦ false | booleanLiteral b ↦ false | longLiteral z ↦ false | floatLiteral b ↦ false | doubleLiteral b ↦ false | bytesLiteral bs ↦ false | structLiteral ↦ false | listLiteral ↦ false | mapLiteral ↦ false ]
+sameLiteral (longLiteral a) y = elim y [ longLiteral b ↦ sameInteger a b | nullLiteral ↦ false | booleanLiteral b ↦ false | intLiteral z ↦ false | floatLiteral b ↦ false | doubleLiteral b ↦ false | bytesLiteral bs ↦ false | structLiteral ↦ false | listLiteral ↦ false | mapLiteral ↦ false ]
+sameLiteral (floatLiteral a) y = elim y [ floatLiteral b ↦ same32 a b | nullLiteral ↦ false | booleanLiteral b ↦ false | intLiteral z ↦ false | longLiteral z ↦ false | doubleLiteral b ↦ false | bytesLiteral bs ↦ false | structLiteral ↦ false | listLiteral ↦ false | mapLiteral ↦ false ]
+sameLiteral (doubleLiteral a) y = elim y [ doubleLiteral b ↦ same64 a b | nullLiteral ↦ false | booleanLiteral b ↦ false | intLiteral z ↦ false | longLiteral z ↦ false | floatLiteral b ↦ false | bytesLiteral bs ↦ false | structLiteral ↦ false | listLiteral ↦ false | mapLiteral ↦ false ]
+sameLiteral (bytesLiteral a) y = elim y [ bytesLiteral b ↦ sameBytes a b | nullLiteral ↦ false | booleanLiteral b ↦ false | intLiteral z ↦ false | longLiteral z ↦ false | floatLiteral b ↦ false | doubleLiteral b ↦ false | structLiteral ↦ false | listLiteral ↦ false | mapLiteral ↦ false ]
+sameLiteral nullLiteral y = false
+sameLiteral structLiteral y = false
+sameLiteral listLiteral y = false
+sameLiteral mapLiteral y = false

@@ -9,7 +9,7 @@ use Rattle.std.specs.declared.option.Option.the-variants.{Some, None}
 use Rattle.meaning.specs.Forest.{none, tree}
 use Rattle.meaning.specs.Model.{Model, Field, Column, Shape, prim, struct, list, map, int, Code, words, int32, structs, lists, maps}
 use Rattle.meaning.specs.Encode.{fixedWidth}
-use Rattle.meaning.specs.Literals.{nullLiteral, intLiteral, structLiteral, listLiteral, mapLiteral, Values, Value}
+use Rattle.meaning.specs.Literals.{nullLiteral, intLiteral, structLiteral, listLiteral, mapLiteral, Values, Value, putBefore}
 
 -- a field of this id, required or not, of this shape
 abbrev pub sampleField : ℤ → Bool → Shape → Field
@@ -80,7 +80,7 @@ besideSample = record {
 -- values side by side
 abbrev pub valuesOf : List Value → Values
 valuesOf [] = none
-valuesOf (v ∷ vs) = tree (v .0) (v .1) (valuesOf vs)
+valuesOf (v ∷ vs) = putBefore v (valuesOf vs)
 
 -- an int; null; {fields}; [elements]; <keys and values in turn>
 abbrev pub intValue : ℕ → Value

@@ -1,4 +1,4 @@
--- The walk over a schema with a batch beside it, for any visitor: visitor.rs's order of questions and hooks.
+-- The walk over a schema with a batch beside it, for any visitor: the order of questions and hooks is that of iceberg's spec/schema/visitor.rs.
 use mathlib.Core.Bool.{Bool, true, false, cond}
 use mathlib.Core.List.{List, [], _∷_}
 use Prim.Native.Nat.{ℕ, zero, suc, _+_}
@@ -15,19 +15,32 @@ use Rattle.meaning.specs.Access.{Pick, StepFault, fault, partner}
 abbrev pub Step : Type 0 → Type 0 → Type 0
 Step S X = S → Result X StepFault × S
 
+-- an answer that changes no state
 abbrev pub ret : {S X : Type 0} → X → Step S X
 ret x s = (Ok x, s)
 
+-- a refusal that changes no state
 abbrev pub refuse : {S X : Type 0} → StepFault → Step S X
 refuse e s = (Err e, s)
 
--- the first refusal ends it
+-- what goes on with an outcome; a refusal ends it
 abbrev pub bindResult : {S X Y : Type 0} → (X → Step S Y) → Result X StepFault × S → Result Y StepFault × S
 bindResult f (Ok x, s) = f x s
 bindResult f (Err e, s) = (Err e, s)
 
+-- one step after another, up to the first refusal
 abbrev pub bind : {S X Y : Type 0} → Step S X → (X → Step S Y) → Step S Y
 bind m f s = bindResult f (m s)
+
+-- the step on what was found; a refusal where nothing was
+abbrev pub orRefuse : {X Y S : Type 0} → Option X → StepFault → (X → Step S Y) → Step S Y
+orRefuse None e k = refuse e
+orRefuse (Some x) e k = k x
+
+-- a refusal where a test holds, and else the step
+abbrev pub refuseIf : {Y S : Type 0} → Bool → StepFault → Step S Y → Step S Y
+refuseIf true e k = refuse e
+refuseIf false e k = k
 
 -- what a field is to the type that holds it
 pub data Role : Type 0 where
@@ -36,7 +49,8 @@ pub data Role : Type 0 where
   mapKey : Role
   mapValue : Role
 
--- a visitor, by what its hooks do: each is given the number of a field and of a column
+-- a visitor, by what its hooks do. Each is given the number of a field and of its partner column; T is a visitor's result for a column, S its state.
+-- `before` and `after` stand for the eight hooks before and after a struct field, a list element, a map key and a map value, the others for `field`, `primitive`, `struct`, `list` and `map`
 pub record Hooks (S T : Type 0) : Type 0 where
   pub before : Role → ℕ → ℕ → Step S (Unit {0})
   pub after : Role → ℕ → ℕ → Step S (Unit {0})
@@ -53,23 +67,26 @@ role struct up n = structField
 role list up n = listElement
 role map up n = cond (eqb n (up + 1)) mapKey mapValue
 
--- field n and the fields below it; and its type, field 0 being the schema's struct
+-- field n, and the fields below it
 abbrev pub fieldAt : Model → ℕ → Option (Field × Forest Field)
 fieldAt m n = find n 1 (m .fields)
 
+-- a field's type: its shape, and the fields that it holds
 abbrev pub typeOf : Option (Field × Forest Field) → Option (Shape × Forest Field)
 typeOf None = None
 typeOf (Some (f, below)) = Some (f .shape, below)
 
+-- the type of field n, field 0 being the schema's struct
 abbrev pub typeAt : Model → ℕ → Option (Shape × Forest Field)
 typeAt m zero = Some (struct, m .fields)
 typeAt m (suc n) = typeOf (fieldAt m (suc n))
 
--- a number that names no column
+-- nothing was found
 abbrev pub absentColumn : Option (Column × Forest Column) → Bool
 absentColumn None = true
 absentColumn (Some x) = false
 
+-- the number c names no column
 abbrev pub missing : Model → ℕ → Bool
 missing m c = absentColumn (column m c)
 
