@@ -13,21 +13,21 @@ use Rattle.meaning.specs.Access.{fault}
 use Rattle.meaning.specs.Literals.{intLiteral, floatLiteral, primitiveLiteral, sameKey, Value, sameLiteral}
 use Rattle.meaning.specs.Picks.{byId}
 use Rattle.meaning.specs.Converts.{converts}
-use Rattle.meaning.specs.Samples.{structValue, listValue, mapValue, sampleField, sampleColumn, intColumn, pairsSample, listsSample, structSample, besideSample, intValue, nullValue}
+use Rattle.meaning.specs.Samples.{optionalValues, requiredValues, twoLists, secondListNull, nullStruct, validStruct, structValue, listValue, mapValue, sampleField, sampleColumn, intColumn, listsSample, besideEmptyStruct, intValue, nullValue}
 use Rattle.meaning.specs.Reaches.{reached}
 use Rattle.meaning.specs.Converter.{fieldStep, primitiveStep, structStep, listStep, mapStep, conversion}
 use Rattle.meaning.specs.Table.{Table}
 use Rattle.meaning.specs.Counter.{computeWalk}
 
 -- a map's kept pairs, and 16 with required values
-pairs-kept : conversion (pairsSample false) (byId (pairsSample false)) 100 ≡ (Ok (structValue (mapValue (intValue 5 ∷ intValue 3 ∷ intValue 6 ∷ nullValue ∷ []) ∷ []) ∷ []), 13)
+pairs-kept : conversion optionalValues (byId optionalValues) 100 ≡ (Ok (structValue (mapValue (intValue 5 ∷ intValue 3 ∷ intValue 6 ∷ nullValue ∷ []) ∷ []) ∷ []), 13)
 pairs-kept = refl
 
-pairs-required : conversion (pairsSample true) (byId (pairsSample true)) 100 .0 ≡ Err (fault 16 1 1)
+pairs-required : conversion requiredValues (byId requiredValues) 100 .0 ≡ Err (fault 16 1 1)
 pairs-required = refl
 
 -- the same, with too few cells for the struct, the map, and the values
-pairs-short : (conversion (pairsSample false) (byId (pairsSample false)) 12 .0 ≡ Err (fault 21 0 0)) × (conversion (pairsSample false) (byId (pairsSample false)) 10 .0 ≡ Err (fault 21 1 1)) × (conversion (pairsSample false) (byId (pairsSample false)) 5 .0 ≡ Err (fault 21 3 3))
+pairs-short : (conversion optionalValues (byId optionalValues) 12 .0 ≡ Err (fault 21 0 0)) × (conversion optionalValues (byId optionalValues) 10 .0 ≡ Err (fault 21 1 1)) × (conversion optionalValues (byId optionalValues) 5 .0 ≡ Err (fault 21 3 3))
 pairs-short = (refl, refl, refl)
 
 -- the map's hook on results of its own: 9, 13, 18, 20, 19, 16, each before the next
@@ -41,9 +41,9 @@ abbrev holed : List Value
 holed = nullValue ∷ intValue 6 ∷ intValue 5 ∷ []
 
 map-hook :
-    (mapStep (pairsSample true) 100 2 1 two three 0 .0 ≡ Err (fault 9 1 2)) × (mapStep (pairsSample true) 100 1 7 two three 0 .0 ≡ Err (fault 9 7 1)) × (mapStep (pairsSample true) 100 1 0 two three 0 .0 ≡ Err (fault 13 0 1))
-    × (mapStep (pairsSample true) 100 1 1 two three 0 .0 ≡ Err (fault 18 1 1)) × (mapStep (pairsSample true) 100 1 1 (nullValue ∷ []) (nullValue ∷ []) 0 .0 ≡ Err (fault 20 1 1))
-    × (mapStep (pairsSample true) 100 1 1 holed holed 0 .0 ≡ Err (fault 19 1 1)) × (mapStep (pairsSample true) 100 1 1 three holed 0 .0 ≡ Err (fault 16 1 1)) × (mapStep (pairsSample true) 4 1 1 three three 0 .0 ≡ Err (fault 21 1 1))
+    (mapStep requiredValues 100 2 1 two three 0 .0 ≡ Err (fault 9 1 2)) × (mapStep requiredValues 100 1 7 two three 0 .0 ≡ Err (fault 9 7 1)) × (mapStep requiredValues 100 1 0 two three 0 .0 ≡ Err (fault 13 0 1))
+    × (mapStep requiredValues 100 1 1 two three 0 .0 ≡ Err (fault 18 1 1)) × (mapStep requiredValues 100 1 1 (nullValue ∷ []) (nullValue ∷ []) 0 .0 ≡ Err (fault 20 1 1))
+    × (mapStep requiredValues 100 1 1 holed holed 0 .0 ≡ Err (fault 19 1 1)) × (mapStep requiredValues 100 1 1 three holed 0 .0 ≡ Err (fault 16 1 1)) × (mapStep requiredValues 4 1 1 three three 0 .0 ≡ Err (fault 21 1 1))
 map-hook = (refl, refl, refl, refl, refl, refl, refl, refl)
 
 -- keys by value: NaNs of any bits are one key, -0 is 0, and 1 is not 2
@@ -52,8 +52,8 @@ keys-alike = (refl, refl, refl, refl)
 
 -- offsets 1, 1, 3: [] and [2,3]; with the second slot null: [] and null, which is not cut
 lists-cut :
-    (conversion (listsSample None None) (byId (listsSample None None)) 100 ≡ (Ok (structValue (listValue [] ∷ []) ∷ structValue (listValue (intValue 2 ∷ intValue 3 ∷ []) ∷ []) ∷ []), 10))
-    × (conversion (listsSample (Some (1 ∷ [])) None) (byId (listsSample (Some (1 ∷ [])) None)) 100 ≡ (Ok (structValue (listValue [] ∷ []) ∷ structValue (nullValue ∷ []) ∷ []), 10))
+    (conversion twoLists (byId twoLists) 100 ≡ (Ok (structValue (listValue [] ∷ []) ∷ structValue (listValue (intValue 2 ∷ intValue 3 ∷ []) ∷ []) ∷ []), 10))
+    × (conversion secondListNull (byId secondListNull) 100 ≡ (Ok (structValue (listValue [] ∷ []) ∷ structValue (nullValue ∷ []) ∷ []), 10))
 lists-cut = (refl, refl)
 
 -- a required element is null outside every span, inside one, and inside the span of a null slot
@@ -63,8 +63,8 @@ lists-null = (refl, refl, refl)
 
 -- the list's hook on results of its own: 9, 12, 20 (also for a null slot's span, and before 16), 16, 21
 list-hook :
-    (listStep (listsSample None None) 100 2 1 three 0 .0 ≡ Err (fault 9 1 2)) × (listStep (listsSample None None) 100 1 2 three 0 .0 ≡ Err (fault 12 2 1)) × (listStep (listsSample (Some (1 ∷ [])) None) 100 1 1 (nullValue ∷ nullValue ∷ []) 0 .0 ≡ Err (fault 20 1 1)) × (listStep (listsSample None None) 100 1 1 (nullValue ∷ nullValue ∷ []) 0 .0 ≡ Err (fault 20 1 1))
-    × (listStep (listsSample None None) 100 1 1 (intValue 1 ∷ nullValue ∷ intValue 3 ∷ []) 0 .0 ≡ Err (fault 16 1 1)) × (listStep (listsSample None None) 100 1 1 three 99 .0 ≡ Err (fault 21 1 1))
+    (listStep twoLists 100 2 1 three 0 .0 ≡ Err (fault 9 1 2)) × (listStep twoLists 100 1 2 three 0 .0 ≡ Err (fault 12 2 1)) × (listStep secondListNull 100 1 1 (nullValue ∷ nullValue ∷ []) 0 .0 ≡ Err (fault 20 1 1)) × (listStep twoLists 100 1 1 (nullValue ∷ nullValue ∷ []) 0 .0 ≡ Err (fault 20 1 1))
+    × (listStep twoLists 100 1 1 (intValue 1 ∷ nullValue ∷ intValue 3 ∷ []) 0 .0 ≡ Err (fault 16 1 1)) × (listStep twoLists 100 1 1 three 99 .0 ≡ Err (fault 21 1 1))
 list-hook = (refl, refl, refl, refl, refl, refl)
 
 -- a fixed-size list of size 2 has as many rows as its result fills, whatever its own length
@@ -81,21 +81,21 @@ sized-rows :
 sized-rows = (refl, refl, refl)
 
 -- a null struct over a null required Int gives null; with the struct not null, 15
-holder-null : (conversion (structSample (Some (0 ∷ []))) (byId (structSample (Some (0 ∷ [])))) 100 ≡ (Ok (structValue (nullValue ∷ []) ∷ []), 5)) × (conversion (structSample None) (byId (structSample None)) 100 .0 ≡ Err (fault 15 2 2))
+holder-null : (conversion nullStruct (byId nullStruct) 100 ≡ (Ok (structValue (nullValue ∷ []) ∷ []), 5)) × (conversion validStruct (byId validStruct) 100 .0 ≡ Err (fault 15 2 2))
 holder-null = (refl, refl)
 
 -- the struct's hook on results of its own: 9, 17, 14; and `field` and `primitive`
 struct-hook :
-    (structStep (structSample None) 100 2 1 ((intValue 1 ∷ []) ∷ []) 0 .0 ≡ Err (fault 9 1 2)) × (structStep (structSample None) 100 1 1 (two ∷ []) 0 .0 ≡ Err (fault 17 1 1)) × (structStep (structSample None) 100 1 2 [] 0 .0 ≡ Err (fault 14 2 1))
-    × (structStep (structSample None) 100 0 0 ((intValue 1 ∷ []) ∷ []) 3 ≡ (Ok (structValue (intValue 1 ∷ []) ∷ []), 5))
-    × (fieldStep (structSample None) 100 2 2 (nullValue ∷ []) 0 .0 ≡ Err (fault 15 2 2)) × (fieldStep (structSample (Some (0 ∷ []))) 100 2 2 (nullValue ∷ []) 0 ≡ (Ok (nullValue ∷ []), 0)) × (primitiveStep (structSample None) 100 2 1 0 .0 ≡ Err (fault 14 1 2))
+    (structStep validStruct 100 2 1 ((intValue 1 ∷ []) ∷ []) 0 .0 ≡ Err (fault 9 1 2)) × (structStep validStruct 100 1 1 (two ∷ []) 0 .0 ≡ Err (fault 17 1 1)) × (structStep validStruct 100 1 2 [] 0 .0 ≡ Err (fault 14 2 1))
+    × (structStep validStruct 100 0 0 ((intValue 1 ∷ []) ∷ []) 3 ≡ (Ok (structValue (intValue 1 ∷ []) ∷ []), 5))
+    × (fieldStep validStruct 100 2 2 (nullValue ∷ []) 0 .0 ≡ Err (fault 15 2 2)) × (fieldStep nullStruct 100 2 2 (nullValue ∷ []) 0 ≡ (Ok (nullValue ∷ []), 0)) × (primitiveStep validStruct 100 2 1 0 .0 ≡ Err (fault 14 1 2))
 struct-hook = (refl, refl, refl, refl, refl, refl, refl)
 
 -- Int 1, 2, 3 beside a struct without fields
 abbrev beside-row : ℕ → Value
 beside-row k = structValue (intValue k ∷ structValue [] ∷ [])
 
-empty-struct : conversion besideSample (byId besideSample) 100 ≡ (Ok (beside-row 1 ∷ beside-row 2 ∷ beside-row 3 ∷ []), 15)
+empty-struct : conversion besideEmptyStruct (byId besideEmptyStruct) 100 ≡ (Ok (beside-row 1 ∷ beside-row 2 ∷ beside-row 3 ∷ []), 15)
 empty-struct = refl
 
 -- the counter: a NaN and 1 under id 7, added to the table it is given; a table of 256 ids refuses another one, and keeps what it has

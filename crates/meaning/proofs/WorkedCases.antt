@@ -13,7 +13,7 @@ use Rattle.meaning.specs.Forest.{none, tree}
 use Rattle.meaning.specs.Model.{structs}
 use Rattle.meaning.specs.Encode.{encode}
 use Rattle.meaning.specs.Keeps.{Keeps, ColumnsKeep, Optional, Validity}
-use Rattle.meaning.specs.Samples.{sampleColumn, intColumn, pairsSample, listsSample, structSample, emptyStructsSample, besideSample}
+use Rattle.meaning.specs.Samples.{sampleColumn, intColumn, pairsSample, listsSample, structSample, emptyStructsSample, besideEmptyStruct}
 use Rattle.meaning.specs.WorkedCases.{Worked-cases}
 
 keeps-pairs : (required : Bool) → length (encode (pairsSample required)) ≤ 1048576 → Keeps (pairsSample required)
@@ -71,7 +71,7 @@ keeps-empty-structs n l h = record {
   small = h;
 }
 
-keeps-beside : Keeps besideSample
+keeps-beside : Keeps besideEmptyStruct
 keeps-beside = record {
   rows = omega arith;
   fewFields = omega arith;

@@ -8,6 +8,7 @@ use Rattle.meaning.specs.File.{decode}
 use Rattle.meaning.specs.Encode.{encode}
 use Rattle.meaning.specs.Keeps.{Bytes, Keeps}
 
+-- encoding and reading are inverse to each other between the batches that keep the rules and the files that are accepted
 pub record Accepts-law : Type 0 where
   -- the encoding of a batch that keeps the rules is a file: every number in it is a byte
   pub file : (m : Model) → Keeps m → Bytes (encode m)

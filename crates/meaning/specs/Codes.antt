@@ -80,15 +80,18 @@ isMap maps = true
 abbrev pub isFloat : Code → Bool
 isFloat k = eqb (codeNumber k) 4 || eqb (codeNumber k) 5
 
--- the same of column c of a batch
+-- column c of a batch is a Struct column
 abbrev pub struct? : Model → ℕ → Bool
 struct? m c = isStruct (at m c .code)
 
+-- it is a List, LargeList or FixedSizeList column
 abbrev pub list? : Model → ℕ → Bool
 list? m c = isList (at m c .code)
 
+-- it is a Map column
 abbrev pub map? : Model → ℕ → Bool
 map? m c = isMap (at m c .code)
 
+-- it is a Float32 or Float64 column
 abbrev pub float? : Model → ℕ → Bool
 float? m c = isFloat (at m c .code)

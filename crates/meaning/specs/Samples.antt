@@ -45,6 +45,13 @@ pairsSample required = record {
       (tree (intColumn 3 None (5 ∷ 6 ∷ 5 ∷ [])) none (tree (intColumn 3 (Some (5 ∷ [])) (1 ∷ 2 ∷ 3 ∷ [])) none none)) none;
 }
 
+-- with values that may be null, and with required values
+abbrev pub optionalValues : Model
+optionalValues = pairsSample false
+
+abbrev pub requiredValues : Model
+requiredValues = pairsSample true
+
 -- two lists over 1, 2, 3, 4 with offsets 1, 1, 3; the validity of the lists and of the elements is open
 abbrev pub listsSample : Option (List ℕ) → Option (List ℕ) → Model
 listsSample ofLists ofElements = record {
@@ -52,6 +59,14 @@ listsSample ofLists ofElements = record {
   fields = tree (sampleField (pos 1) false list) (tree (sampleField (pos 2) true (prim int)) none none) none;
   columns = tree (sampleColumn (Some (codes "1")) lists 2 ofLists (1 ∷ 1 ∷ 3 ∷ []) []) (tree (intColumn 4 ofElements (1 ∷ 2 ∷ 3 ∷ 4 ∷ [])) none none) none;
 }
+
+-- without nulls: [] and [2,3]
+abbrev pub twoLists : Model
+twoLists = listsSample None None
+
+-- the second list null: its validity bit is 0
+abbrev pub secondListNull : Model
+secondListNull = listsSample (Some (1 ∷ [])) None
 
 -- a struct over a required Int that is null; the struct's validity is open
 abbrev pub structSample : Option (List ℕ) → Model
@@ -61,6 +76,13 @@ structSample ofStruct = record {
   columns = tree (sampleColumn (Some (codes "1")) structs 1 ofStruct [] []) (tree (sampleColumn (Some (codes "2")) (words int32) 1 (Some (0 ∷ [])) [] (intBytes (9 ∷ []))) none none) none;
 }
 
+-- the struct null, and not null
+abbrev pub nullStruct : Model
+nullStruct = structSample (Some (0 ∷ []))
+
+abbrev pub validStruct : Model
+validStruct = structSample None
+
 -- one list of structs without fields, cut by these offsets from a struct column of this length
 abbrev pub emptyStructsSample : List ℕ → ℕ → Model
 emptyStructsSample os n = record {
@@ -69,9 +91,16 @@ emptyStructsSample os n = record {
   columns = tree (sampleColumn (Some (codes "1")) lists 1 None os []) (tree (sampleColumn None structs n None [] []) none none) none;
 }
 
+-- offsets 0, 1 and offsets 0, 0
+abbrev pub oneEmptyStruct : Model
+oneEmptyStruct = emptyStructsSample (0 ∷ 1 ∷ []) 1
+
+abbrev pub noEmptyStruct : Model
+noEmptyStruct = emptyStructsSample (0 ∷ 0 ∷ []) 0
+
 -- Int 1, 2, 3 beside a struct without fields
-abbrev pub besideSample : Model
-besideSample = record {
+abbrev pub besideEmptyStruct : Model
+besideEmptyStruct = record {
   rows = 3;
   fields = tree (sampleField (pos 1) false (prim int)) none (tree (sampleField (pos 2) false struct) none none);
   columns = tree (sampleColumn (Some (codes "1")) (words int32) 3 None [] (intBytes (1 ∷ 2 ∷ 3 ∷ []))) none (tree (sampleColumn (Some (codes "2")) structs 3 None [] []) none none);
@@ -82,18 +111,22 @@ abbrev pub valuesOf : List Value → Values
 valuesOf [] = none
 valuesOf (v ∷ vs) = putBefore v (valuesOf vs)
 
--- an int; null; {fields}; [elements]; <keys and values in turn>
+-- an int
 abbrev pub intValue : ℕ → Value
 intValue k = (intLiteral (pos k), none)
 
+-- null
 abbrev pub nullValue : Value
 nullValue = (nullLiteral, none)
 
+-- a struct of these fields
 abbrev pub structValue : List Value → Value
 structValue vs = (structLiteral, valuesOf vs)
 
+-- a list of these elements
 abbrev pub listValue : List Value → Value
 listValue vs = (listLiteral, valuesOf vs)
 
+-- a map of these keys and values, in turn
 abbrev pub mapValue : List Value → Value
 mapValue vs = (mapLiteral, valuesOf vs)

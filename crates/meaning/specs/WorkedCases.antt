@@ -7,6 +7,7 @@ use lib.Dec.{eqb}
 use lib.IntN.{ℤ, pos}
 use lib.Chars.{codes}
 use Rattle.std.specs.declared.option.Option.the-variants.{Some, None}
+use Rattle.std.specs.declared.result.Result.{Result}
 use Rattle.std.specs.declared.result.Result.the-variants.{Ok, Err}
 use Rattle.meaning.specs.Model.{Model, at}
 use Rattle.meaning.specs.Lists.{upto}
@@ -14,19 +15,32 @@ use Rattle.meaning.specs.Items.{Entry, refused, number, numeral, value}
 use Rattle.meaning.specs.Encode.{numeral as written}
 use Rattle.meaning.specs.Keeps.{Keeps}
 use Rattle.meaning.specs.Slots.{nan32}
-use Rattle.meaning.specs.Access.{fault}
+use Rattle.meaning.specs.Access.{StepFault, fault}
 use Rattle.meaning.specs.Picks.{idOf, byId}
+use Rattle.meaning.specs.Literals.{Values}
 use Rattle.meaning.specs.Rows.{rows}
 use Rattle.meaning.specs.Converts.{converts}
 use Rattle.meaning.specs.Reaches.{Reach, reached}
-use Rattle.meaning.specs.Samples.{oneInt, pairsSample, listsSample, structSample, emptyStructsSample, besideSample, valuesOf, intValue, nullValue, structValue, listValue, mapValue}
+use Rattle.meaning.specs.Samples.{oneInt, optionalValues, requiredValues, twoLists, secondListNull, nullStruct, validStruct, oneEmptyStruct, noEmptyStruct, besideEmptyStruct, valuesOf, intValue, nullValue, structValue, listValue, mapValue}
+
+-- the rows of a batch, its columns matched to fields by id
+abbrev pub rowsById : Model → Values
+rowsById m = rows m (byId m)
+
+-- the cells that its conversion takes, 2048 being there, or its refusal
+abbrev pub convertsById : Model → Result ℕ StepFault
+convertsById m = converts m (byId m) 2048
 
 -- whether each slot of column c is shown, by the first of these reaches that is of column c
-abbrev pub shownSlots : Model → ℕ → List Reach → List Bool
-shownSlots m c [] = []
-shownSlots m c (r ∷ rs) = cond (eqb (r .column) c) (each (r .shown) (upto (at m c .len))) (shownSlots m c rs)
+abbrev pub shownBy : Model → ℕ → List Reach → List Bool
+shownBy m c [] = []
+shownBy m c (r ∷ rs) = cond (eqb (r .column) c) (each (r .shown) (upto (at m c .len))) (shownBy m c rs)
 
--- columns are matched to fields by id, and there are cells enough
+-- whether the rows show each slot of column c
+abbrev pub shownSlots : Model → ℕ → List Bool
+shownSlots m c = shownBy m c (reached m (byId m) .0)
+
+-- all of them
 pub record Worked-cases : Type 0 where
   -- 128 is the bytes 80 01
   pub number-128-written : written 128 ≡ 0x80 ∷ 0x01 ∷ []
@@ -50,34 +64,38 @@ pub record Worked-cases : Type 0 where
   pub nan-positive : nan32 0x7f800001 ≡ true
   pub nan-negative : nan32 0xff800001 ≡ true
   -- keys 5, 6, 5 with values 1, null, 3 give <5:3,6:null>
-  pub pairs-accepted : converts (pairsSample false) (byId (pairsSample false)) 2048 ≡ Ok 13
-  pub pairs-rows : rows (pairsSample false) (byId (pairsSample false)) ≡ valuesOf (structValue (mapValue (intValue 5 ∷ intValue 3 ∷ intValue 6 ∷ nullValue ∷ []) ∷ []) ∷ [])
+  pub pairs-accepted : convertsById optionalValues ≡ Ok 13
+  pub pairs-rows : rowsById optionalValues ≡ valuesOf (structValue (mapValue (intValue 5 ∷ intValue 3 ∷ intValue 6 ∷ nullValue ∷ []) ∷ []) ∷ [])
   -- with required values it is refused with 16, at the map's column and field
-  pub pairs-required : converts (pairsSample true) (byId (pairsSample true)) 2048 ≡ Err (fault 16 1 1)
+  pub pairs-required : convertsById requiredValues ≡ Err (fault 16 1 1)
+  -- both batches keep the rules
+  pub pairs-keep : Keeps optionalValues × Keeps requiredValues
   -- a child 1, 2, 3, 4 under offsets 1, 1, 3 gives [] and [2,3]; its slots 1 and 2 are shown, 0 and 3 are hidden
-  pub lists-accepted : converts (listsSample None None) (byId (listsSample None None)) 2048 ≡ Ok 10
-  pub lists-rows : rows (listsSample None None) (byId (listsSample None None)) ≡ valuesOf (structValue (listValue [] ∷ []) ∷ structValue (listValue (intValue 2 ∷ intValue 3 ∷ []) ∷ []) ∷ [])
-  pub lists-shown : shownSlots (listsSample None None) 2 (reached (listsSample None None) (byId (listsSample None None)) .0) ≡ false ∷ true ∷ true ∷ false ∷ []
+  pub lists-accepted : convertsById twoLists ≡ Ok 10
+  pub lists-rows : rowsById twoLists ≡ valuesOf (structValue (listValue [] ∷ []) ∷ structValue (listValue (intValue 2 ∷ intValue 3 ∷ []) ∷ []) ∷ [])
+  pub lists-shown : shownSlots twoLists 2 ≡ false ∷ true ∷ true ∷ false ∷ []
   -- with the second list null (validity bits 01) it gives [] and null, and all four are hidden
-  pub null-list-accepted : converts (listsSample (Some (1 ∷ [])) None) (byId (listsSample (Some (1 ∷ [])) None)) 2048 ≡ Ok 10
-  pub null-list-rows : rows (listsSample (Some (1 ∷ [])) None) (byId (listsSample (Some (1 ∷ [])) None)) ≡ valuesOf (structValue (listValue [] ∷ []) ∷ structValue (nullValue ∷ []) ∷ [])
-  pub null-list-shown : shownSlots (listsSample (Some (1 ∷ [])) None) 2 (reached (listsSample (Some (1 ∷ [])) None) (byId (listsSample (Some (1 ∷ [])) None)) .0) ≡ false ∷ false ∷ false ∷ false ∷ []
+  pub null-list-accepted : convertsById secondListNull ≡ Ok 10
+  pub null-list-rows : rowsById secondListNull ≡ valuesOf (structValue (listValue [] ∷ []) ∷ structValue (nullValue ∷ []) ∷ [])
+  pub null-list-shown : shownSlots secondListNull 2 ≡ false ∷ false ∷ false ∷ false ∷ []
+  -- both batches keep the rules
+  pub lists-keep : Keeps twoLists × Keeps secondListNull
   -- a null struct over a null required field gives null
-  pub null-struct-accepted : converts (structSample (Some (0 ∷ []))) (byId (structSample (Some (0 ∷ [])))) 2048 ≡ Ok 5
-  pub null-struct-rows : rows (structSample (Some (0 ∷ []))) (byId (structSample (Some (0 ∷ [])))) ≡ valuesOf (structValue (nullValue ∷ []) ∷ [])
+  pub null-struct-accepted : convertsById nullStruct ≡ Ok 5
+  pub null-struct-rows : rowsById nullStruct ≡ valuesOf (structValue (nullValue ∷ []) ∷ [])
   -- with the struct not null it is refused with 15, at the field's column
-  pub struct-refused : converts (structSample None) (byId (structSample None)) 2048 ≡ Err (fault 15 2 2)
+  pub struct-refused : convertsById validStruct ≡ Err (fault 15 2 2)
+  -- both batches keep the rules
+  pub struct-keeps : Keeps nullStruct × Keeps validStruct
   -- a list of empty structs, none null: offsets 0, 1 give one row [{}], offsets 0, 0 one row []
-  pub one-empty-struct-accepted : converts (emptyStructsSample (0 ∷ 1 ∷ []) 1) (byId (emptyStructsSample (0 ∷ 1 ∷ []) 1)) 2048 ≡ Ok 4
-  pub one-empty-struct-rows : rows (emptyStructsSample (0 ∷ 1 ∷ []) 1) (byId (emptyStructsSample (0 ∷ 1 ∷ []) 1)) ≡ valuesOf (structValue (listValue (structValue [] ∷ []) ∷ []) ∷ [])
-  pub no-empty-struct-accepted : converts (emptyStructsSample (0 ∷ 0 ∷ []) 0) (byId (emptyStructsSample (0 ∷ 0 ∷ []) 0)) 2048 ≡ Ok 3
-  pub no-empty-struct-rows : rows (emptyStructsSample (0 ∷ 0 ∷ []) 0) (byId (emptyStructsSample (0 ∷ 0 ∷ []) 0)) ≡ valuesOf (structValue (listValue [] ∷ []) ∷ [])
+  pub one-empty-struct-accepted : convertsById oneEmptyStruct ≡ Ok 4
+  pub one-empty-struct-rows : rowsById oneEmptyStruct ≡ valuesOf (structValue (listValue (structValue [] ∷ []) ∷ []) ∷ [])
+  pub no-empty-struct-accepted : convertsById noEmptyStruct ≡ Ok 3
+  pub no-empty-struct-rows : rowsById noEmptyStruct ≡ valuesOf (structValue (listValue [] ∷ []) ∷ [])
+  -- both batches keep the rules
+  pub empty-structs-keep : Keeps oneEmptyStruct × Keeps noEmptyStruct
   -- Int 1, 2, 3 beside an empty struct gives {1,{}}, {2,{}}, {3,{}}
-  pub beside-accepted : converts besideSample (byId besideSample) 2048 ≡ Ok 15
-  pub beside-rows : rows besideSample (byId besideSample) ≡ valuesOf (structValue (intValue 1 ∷ structValue [] ∷ []) ∷ structValue (intValue 2 ∷ structValue [] ∷ []) ∷ structValue (intValue 3 ∷ structValue [] ∷ []) ∷ [])
-  -- all of these batches keep the rules
-  pub pairs-keep : Keeps (pairsSample false) × Keeps (pairsSample true)
-  pub lists-keep : Keeps (listsSample None None) × Keeps (listsSample (Some (1 ∷ [])) None)
-  pub struct-keeps : Keeps (structSample (Some (0 ∷ []))) × Keeps (structSample None)
-  pub empty-structs-keep : Keeps (emptyStructsSample (0 ∷ 1 ∷ []) 1) × Keeps (emptyStructsSample (0 ∷ 0 ∷ []) 0)
-  pub beside-keeps : Keeps besideSample
+  pub beside-accepted : convertsById besideEmptyStruct ≡ Ok 15
+  pub beside-rows : rowsById besideEmptyStruct ≡ valuesOf (structValue (intValue 1 ∷ structValue [] ∷ []) ∷ structValue (intValue 2 ∷ structValue [] ∷ []) ∷ structValue (intValue 3 ∷ structValue [] ∷ []) ∷ [])
+  -- the batch keeps the rules
+  pub beside-keeps : Keeps besideEmptyStruct
