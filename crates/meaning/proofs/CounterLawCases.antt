@@ -3,16 +3,16 @@ use mathlib.Core.Path.{_≡_, refl, subst}
 use mathlib.Core.List.{List, [], _∷_}
 use mathlib.Core.Bool.{true, false}
 use Prim.Native.Nat.{ℕ, suc, zero}
-use native.Mathlib.Omega.{arith}
-use lib.Dec.{lit≤, lit<}
+use lib.Dec.{lit≤}
 use lib.IntN.{ℤ, pos, negsuc}
 use Rattle.std.specs.declared.option.Option.the-variants.{Some, None}
 use Rattle.std.specs.declared.result.Result.the-variants.{Err}
 use Rattle.meaning.specs.Forest.{none, tree}
 use Rattle.meaning.specs.Model.{Model, prim, float, words, float32}
-use Rattle.meaning.specs.Keeps.{Keeps, InRange}
+use Rattle.meaning.specs.Keeps.{Keeps}
 use Rattle.meaning.specs.Lists.{among}
 use Rattle.meaning.specs.Samples.{sampleField, sampleColumn}
+use Rattle.meaning.proofs.KeepsRead.{keeps-read}
 use Rattle.meaning.specs.Access.{Pick, Own, fault, kids}
 use Rattle.meaning.specs.Table.{countOf}
 use Rattle.meaning.specs.CounterLaw.{Call, computes, tableAfter, FewIds}
@@ -38,34 +38,18 @@ own id zero (suc zero) k h = let e : _≡_ {A = ℕ} 1 k = cc in subst (λ (n : 
 own id zero (suc (suc n)) k h = cc
 own id (suc c) n k h = cc
 
-keeps : (id : ℤ) → InRange id → Keeps (small id)
-keeps id r = record {
-  rows = omega arith;
-  fewFields = omega arith;
-  fieldLevels = omega arith;
-  fields = (r, omega arith, (tt, refl), tt, tt);
-  fewColumns = omega arith;
-  columnLevels = omega arith;
-  columns = (omega arith, tt, omega arith, tt, (refl, omega arith, refl, refl), tt, tt);
-  lengths = (refl, tt);
-  small = lit≤ tt;
-}
-
-abbrev call : (id : ℤ) → InRange id → Call
-call id r = record { model = small id; keeps = keeps id r; pick = firstOnly; own = own id }
+abbrev call : (id : ℤ) → Keeps (small id) → Call
+call id k = record { model = small id; keeps = k; pick = firstOnly; own = own id }
 
 nothing : (id : ℤ) → Own (small id) (λ c n. None)
 nothing id c f k h = cc
 
-seven : InRange (pos 7)
-seven = lit< tt
-
 abbrev refused : Call
-refused = record { model = small (pos 3); keeps = keeps (pos 3) (lit< tt); pick = λ c n. None; own = nothing (pos 3) }
+refused = record { model = small (pos 3); keeps = keeps-read (small (pos 3)) refl refl; pick = λ c n. None; own = nothing (pos 3) }
 
 -- 7, -2, 7 again, and a call that picks no column
 abbrev calls : List Call
-calls = call (pos 7) seven ∷ call (negsuc 1) (lit< tt) ∷ refused ∷ call (pos 7) seven ∷ []
+calls = call (pos 7) (keeps-read (small (pos 7)) refl refl) ∷ call (negsuc 1) (keeps-read (small (negsuc 1)) refl refl) ∷ refused ∷ call (pos 7) (keeps-read (small (pos 7)) refl refl) ∷ []
 
 calls-few : FewIds calls
 calls-few = lit≤ tt

@@ -16,7 +16,7 @@ use Rattle.meaning.specs.Rows.{lastSame, keptFrom, kept}
 use Rattle.meaning.specs.Converter.{slot, keptPairs}
 use Rattle.meaning.proofs.Inserted.{inserted, insertedAll}
 use Rattle.meaning.proofs.Keys.{Alike, numbers, bytes, truths, singles, doubles}
-use Rattle.meaning.proofs.Everywhere.{All}
+use Rattle.std.specs.shelf.Lists.{All}
 
 -- a test that goes both ways and on
 pub record Linked {X : Type 0} (same : X → X → Bool) : Type 0 where

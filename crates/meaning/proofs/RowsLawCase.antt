@@ -3,7 +3,6 @@ use mathlib.Core.Path.{_≡_, refl}
 use mathlib.Core.List.{[], _∷_}
 use mathlib.Core.Bool.{false}
 use Prim.Native.Nat.{zero, suc}
-use native.Mathlib.Omega.{arith}
 use lib.IntN.{pos}
 use Rattle.std.specs.declared.option.Option.the-variants.{Some, None}
 use Rattle.std.specs.declared.result.Result.the-variants.{Ok}
@@ -16,9 +15,10 @@ use Rattle.meaning.specs.Converts.{converts}
 use Rattle.meaning.specs.Reaches.{reached}
 use Rattle.meaning.specs.Table.{countOf}
 use Rattle.meaning.specs.CounterLaw.{Call, computes, rowNans, hiddenNansOf}
-use Rattle.meaning.specs.Keeps.{Keeps, ColumnsKeep}
+use Rattle.meaning.specs.Keeps.{Keeps}
 use Rattle.meaning.specs.Literals.{listed}
 use Rattle.meaning.specs.Converter.{conversion}
+use Rattle.meaning.proofs.KeepsRead.{keeps-read}
 use Rattle.meaning.proofs.Converting.{converted-law}
 
 -- one map of Float to Double: keys NaN, 1, another NaN; values NaN, NaN, 1
@@ -41,20 +41,7 @@ some-own zero f k e = rw (← (let t : 1 ≡ k = cc in t)) refl
 some-own (suc c) f k e = cc
 
 some-keeps : Keeps some
-some-keeps = record {
-  rows = omega arith;
-  fewFields = omega arith;
-  fieldLevels = omega arith;
-  fields = (omega arith, omega arith, (refl, tt), (omega arith, omega arith, (tt, refl), tt, (omega arith, omega arith, (tt, refl), tt, tt)), tt);
-  fewColumns = omega arith;
-  columnLevels = omega arith;
-  columns = (omega arith, tt, omega arith, tt, (omega arith, refl, refl, omega arith, omega arith), (omega arith, tt, omega arith, tt, (refl, omega arith, refl, refl), tt, values), tt);
-  lengths = (refl, tt);
-  small = omega arith;
-}
-  where
-    values : ColumnsKeep (tree (sampleColumn None (words float64) 3 None [] (0 ∷ 0 ∷ 0 ∷ 0 ∷ 0 ∷ 0 ∷ 248 ∷ 127 ∷ 0 ∷ 0 ∷ 0 ∷ 0 ∷ 0 ∷ 0 ∷ 248 ∷ 127 ∷ 0 ∷ 0 ∷ 0 ∷ 0 ∷ 0 ∷ 0 ∷ 240 ∷ 63 ∷ [])) none none)
-    values = (omega arith, tt, omega arith, tt, (refl, omega arith, refl, refl), tt, tt)
+some-keeps = keeps-read some refl refl
 
 abbrev call : Call
 call = record { model = some; keeps = some-keeps; pick = pick; own = some-own }

@@ -26,7 +26,8 @@ use Rattle.meaning.proofs.Totals.{Cuts}
 use Rattle.meaning.proofs.Spans.{list-cuts, map-cuts}
 use Rattle.meaning.proofs.Accepted.{target, Kind, step}
 use Rattle.meaning.proofs.Places.{held-child, found-child, found-kid}
-use Rattle.meaning.proofs.Everywhere.{All, all-upto, all-from, all-of, all-both, upto-at, some-ext, some-none, none-all, sum-ext, each-ext, joined-ext, length-slots, slot-at, pairs-in, pairs-same}
+use Rattle.std.specs.shelf.Lists.{All}
+use Rattle.meaning.proofs.Everywhere.{all-upto, all-from, all-of, all-both, upto-at, some-ext, some-none, none-all, sum-ext, each-ext, joined-ext, length-slots, slot-at, pairs-in, pairs-same}
 use Rattle.meaning.proofs.Alike.{alike-key}
 use Rattle.meaning.proofs.Agreeing.{Agrees, agrees-unless, agrees-retest, agrees-test, agrees-pass, agrees-sought, agrees-as, agrees-taking}
 
