@@ -6,25 +6,18 @@ use Prim.Native.Nat.{ℕ, zero, suc, _+_, _<_}
 use native.Mathlib.Omega.{arith}
 use lib.ListN.{length, getD}
 use Rattle.std.specs.shelf.Lists.{All}
+use Rattle.std.proofs.shelf.Elements.{all-map, all-push}
 use Rattle.meaning.specs.Forest.{beside}
 use Rattle.meaning.specs.Lists.{upto, from, anyOf, sum}
 use Rattle.meaning.specs.Literals.{Values}
 use Rattle.meaning.specs.Rows.{joined, lastSame, keptFrom, kept}
 
-all-each : {X Y : Type 0} (P : Y → Type 0) (h : X → Y) (xs : List X) → All (λ x. P (h x)) xs → All P (each h xs)
-all-each P h [] a = tt
-all-each P h (x ∷ xs) a = (a .0, all-each P h xs (a .1))
-
 pub all-upto : (P : ℕ → Type 0) (n : ℕ) → ((i : ℕ) → i < n → P i) → All P (upto n)
 all-upto P zero a = tt
-all-upto P (suc n) a = (a 0 (omega arith), all-each P suc (upto n) (all-upto (λ i. P (suc i)) n (λ i h. a (suc i) (omega arith))))
+all-upto P (suc n) a = (a 0 (omega arith), all-map P suc (upto n) (all-upto (λ i. P (suc i)) n (λ i h. a (suc i) (omega arith))))
 
 pub all-from : (P : ℕ → Type 0) (a n : ℕ) → ((k : ℕ) → k < n → P (a + k)) → All P (from a n)
-all-from P a n h = all-each P (λ k. a + k) (upto n) (all-upto (λ k. P (a + k)) n h)
-
-pub all-of : {X : Type 0} (P Q : X → Type 0) → ((x : X) → P x → Q x) → (xs : List X) → All P xs → All Q xs
-all-of P Q h [] a = tt
-all-of P Q h (x ∷ xs) a = (h x (a .0), all-of P Q h xs (a .1))
+all-from P a n h = all-map P (λ k. a + k) (upto n) (all-upto (λ k. P (a + k)) n h)
 
 pub all-both : {X : Type 0} (P Q : X → Type 0) (xs : List X) → All P xs → All Q xs → All (λ x. P x × Q x) xs
 all-both P Q [] a b = tt
@@ -69,13 +62,9 @@ joined-ext f g [] a = refl
 joined-ext f g (x ∷ xs) a = ap₂ beside (a .0) (joined-ext f g xs (a .1))
 
 -- the values of n slots: how many they are, and each at its place
-each-each : {X Y Z : Type 0} (f : Y → Z) (g : X → Y) (xs : List X) → each f (each g xs) ≡ each (λ k. f (g k)) xs
+pub each-each : {X Y Z : Type 0} (f : Y → Z) (g : X → Y) (xs : List X) → each f (each g xs) ≡ each (λ k. f (g k)) xs
 each-each f g [] = refl
 each-each f g (x ∷ xs) = ap (λ ys. f (g x) ∷ ys) (each-each f g xs)
-
-length-each : {X Y : Type 0} (f : X → Y) (xs : List X) → length (each f xs) ≡ length xs
-length-each f [] = refl
-length-each f (x ∷ xs) = ap suc (length-each f xs)
 
 pub length-slots : {X : Type 0} (f : ℕ → X) (n : ℕ) → length (each f (upto n)) ≡ n
 length-slots f zero = refl
@@ -86,12 +75,13 @@ slot-at f zero i d h = absurd (omega arith)
 slot-at f (suc n) zero d h = refl
 slot-at f (suc n) (suc i) d h = ap (λ xs. getD xs i d) (each-each f suc (upto n)) ∙ slot-at (λ k. f (suc k)) n i d (omega arith)
 
+-- one more slot at the end of a list that is searched
+pub any-push : (t : ℕ → Bool) (xs : List ℕ) (i : ℕ) → anyOf t (xs ++ (i ∷ [])) ≡ (anyOf t xs || t i)
+any-push t [] i = grind arith
+any-push t (x ∷ xs) i = ap (λ b. t x || b) (any-push t xs i) ∙ grind arith
+
 -- key tests that agree on the slots of a span keep the same pairs, and the pairs are of those slots
 module _ (P : ℕ → Type 0) where
-  all-push : (xs : List ℕ) (i : ℕ) → All P xs → P i → All P (xs ++ (i ∷ []))
-  all-push [] i a p = (p, tt)
-  all-push (x ∷ xs) i a p = (a .0, all-push xs i (a .1) p)
-
   last-in : (f : ℕ → Bool) (i : ℕ) (js : List ℕ) → P i → All P js → P (lastSame f i js)
   last-in f i [] p a = p
   last-in f i (j ∷ js) p a = go (f j) (last-in f j js (a .0) (a .1)) (last-in f i js p (a .1))
@@ -128,7 +118,7 @@ module _ (P : ℕ → Type 0) where
     kept-same seen [] s a = refl
     kept-same seen (i ∷ is) s a =
         let more : List (ℕ × ℕ) = keptFrom g (seen ++ (i ∷ [])) is in
-        ap₂ (λ (b : Bool) (r : List (ℕ × ℕ)). cond b r ((i, lastSame (f i) i is) ∷ r)) (any-same i seen (a .0) s) (kept-same (seen ++ (i ∷ [])) is (all-push seen i s (a .0)) (a .1))
+        ap₂ (λ (b : Bool) (r : List (ℕ × ℕ)). cond b r ((i, lastSame (f i) i is) ∷ r)) (any-same i seen (a .0) s) (kept-same (seen ++ (i ∷ [])) is (all-push P seen i s (a .0)) (a .1))
         ∙ ap (λ (l : ℕ). cond (anyOf (g i) seen) more ((i, l) ∷ more)) (last-same i i is (a .0) (a .1))
 
     pub pairs-same : (is : List ℕ) → All P is → kept f is ≡ kept g is

@@ -15,6 +15,7 @@ use Rattle.meaning.specs.Literals.{Literal, nullLiteral, booleanLiteral, intLi
 use Rattle.meaning.specs.Rows.{lastSame, keptFrom, kept}
 use Rattle.meaning.specs.Converter.{slot, keptPairs}
 use Rattle.meaning.proofs.Inserted.{inserted, insertedAll}
+use Rattle.meaning.proofs.Everywhere.{any-push}
 use Rattle.meaning.proofs.Keys.{Alike, numbers, bytes, truths, singles, doubles}
 use Rattle.std.specs.shelf.Lists.{All}
 
@@ -79,10 +80,6 @@ module _ (same : ℕ → ℕ → Bool) (l : Linked same) where
   -- the slots seen so far have the keys that are there
   abbrev Seen : List ℕ → List (ℕ × ℕ) → Type 0
   Seen seen kvs = (i : ℕ) → anyOf (same i) seen ≡ hits kvs i
-
-  any-push : (t : ℕ → Bool) (xs : List ℕ) (i : ℕ) → anyOf t (xs ++ (i ∷ [])) ≡ (anyOf t xs || t i)
-  any-push t [] i = grind arith
-  any-push t (x ∷ xs) i = ap (λ b. t x || b) (any-push t xs i) ∙ grind arith
 
   seen-there : (seen : List ℕ) (kvs : List (ℕ × ℕ)) (j : ℕ) → hits kvs j ≡ true → Seen seen kvs → Seen (seen ++ (j ∷ [])) (inserted same kvs j)
   seen-there seen kvs j h s i =

@@ -1,7 +1,7 @@
 -- A batch that keeps the rules fulfils the premises of the laws' proofs.
 use mathlib.Core.Path.{_≡_, refl, sym, ap, _∙_, subst}
 use mathlib.Core.List.{List, [], _∷_}
-use mathlib.Core.Bool.{Bool, true, false, cond}
+use mathlib.Core.Bool.{false≢true, Bool, true, false, cond}
 use Prim.Native.Nat.{ℕ, zero, suc, _+_, _/_, _≤_, _<_}
 use native.Mathlib.Omega.{arith}
 use native.Mathlib.Numerals.{add-one}
@@ -83,9 +83,6 @@ ascends width x l c w = record {
   end = inside (x .offsets) l w (x .len) (omega (arith, c .0));
 }
 
-unlike : false ≡ true → ⊥
-unlike e = let z : _≡_ {A = ℕ} 0 1 = cc in omega arith
-
 -- what a column found keeps
 abbrev Well : Option Tree → Type 0
 Well None = Unit {0}
@@ -117,15 +114,15 @@ module _ (m : Model) (r : Keeps m) where
 
   -- struct columns
   long-of : (x : Column) (ks : Forest Column) (k : Code) → isStruct k ≡ true → Bodied k x ks → Lengths (λ l. l ≡ x .len) ks
-  long-of x ks bits e b = absurd (unlike e)
-  long-of x ks (words w) e b = absurd (unlike e)
-  long-of x ks (variable w) e b = absurd (unlike e)
-  long-of x ks (fixedSizeBinary w) e b = absurd (unlike e)
+  long-of x ks bits e b = absurd (false≢true e)
+  long-of x ks (words w) e b = absurd (false≢true e)
+  long-of x ks (variable w) e b = absurd (false≢true e)
+  long-of x ks (fixedSizeBinary w) e b = absurd (false≢true e)
   long-of x ks structs e b = b .2
-  long-of x ks lists e b = absurd (unlike e)
-  long-of x ks largeLists e b = absurd (unlike e)
-  long-of x ks (fixedSizeLists s) e b = absurd (unlike e)
-  long-of x ks maps e b = absurd (unlike e)
+  long-of x ks lists e b = absurd (false≢true e)
+  long-of x ks largeLists e b = absurd (false≢true e)
+  long-of x ks (fixedSizeLists s) e b = absurd (false≢true e)
+  long-of x ks maps e b = absurd (false≢true e)
 
   level : (c k : ℕ) → struct? m c ≡ true → among k (kids m c) ≡ true → at m k .len ≡ at m c .len
   level c k e a = go (column m c) refl (well c) e a
@@ -168,14 +165,14 @@ module _ (m : Model) (r : Keeps m) where
 
   pair-of : (c : ℕ) (k : Code) (x : Column) (ks : Forest Column) → isMap k ≡ true → column m c ≡ Some (x, ks) → Bodied k x ks
       → at m (getD (numbers (c + 1) ks) 1 0) .len ≡ at m (getD (numbers (c + 1) ks) 0 0) .len
-  pair-of c bits x ks e p b = absurd (unlike e)
-  pair-of c (words w) x ks e p b = absurd (unlike e)
-  pair-of c (variable t) x ks e p b = absurd (unlike e)
-  pair-of c (fixedSizeBinary w) x ks e p b = absurd (unlike e)
-  pair-of c structs x ks e p b = absurd (unlike e)
-  pair-of c lists x ks e p b = absurd (unlike e)
-  pair-of c largeLists x ks e p b = absurd (unlike e)
-  pair-of c (fixedSizeLists s) x ks e p b = absurd (unlike e)
+  pair-of c bits x ks e p b = absurd (false≢true e)
+  pair-of c (words w) x ks e p b = absurd (false≢true e)
+  pair-of c (variable t) x ks e p b = absurd (false≢true e)
+  pair-of c (fixedSizeBinary w) x ks e p b = absurd (false≢true e)
+  pair-of c structs x ks e p b = absurd (false≢true e)
+  pair-of c lists x ks e p b = absurd (false≢true e)
+  pair-of c largeLists x ks e p b = absurd (false≢true e)
+  pair-of c (fixedSizeLists s) x ks e p b = absurd (false≢true e)
   pair-of c maps x none e p b = absurd (omega (arith, b .2))
   pair-of c maps x (tree y ls none) e p b = absurd (omega (arith, b .2))
   pair-of c maps x (tree y ls (tree z ks rest)) e p b = second-len c x y z ls ks rest p ∙ (b .4 .1 .0 ∙ sym (first-len c x y ls (tree z ks rest) p))
@@ -184,7 +181,7 @@ module _ (m : Model) (r : Keeps m) where
   paired c e = go (column m c) refl (well c) e
     where
       go : (o : Option Tree) → column m c ≡ o → Well o → isMap (head o .code) ≡ true → at m (getD (numbers (c + 1) (below o)) 1 0) .len ≡ at m (getD (numbers (c + 1) (below o)) 0 0) .len
-      go None p h e = absurd (unlike e)
+      go None p h e = absurd (false≢true e)
       go (Some (x, ks)) p h e = pair-of c (x .code) x ks e p (h .1)
 
   bytes : (c : ℕ) → Bytes (at m c .body)

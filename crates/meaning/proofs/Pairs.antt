@@ -1,6 +1,6 @@
 -- The pairs that a map keeps: each at its class's first key slot and last value slot.
 use mathlib.Core.Path.{_≡_, refl, sym, ap, ap₂, _∙_, subst}
-use mathlib.Core.List.{List, [], _∷_, _++_, map as each}
+use mathlib.Core.List.{List, [], _∷_, _++_}
 use mathlib.Core.Bool.{Bool, true, false, cond, not, _&&_, _||_, and-true, and-false}
 use mathlib.Core.Logic.{⊎-elim}
 use Prim.Native.Nat.{ℕ, zero, suc, _+_, _-_, _≤_}
@@ -10,19 +10,7 @@ use Rattle.std.proofs.shelf.Tests.{cases-bool}
 use Rattle.meaning.specs.Lists.{upto, from, anyOf, sum}
 use Rattle.meaning.specs.Rows.{lastSame, keptFrom, kept}
 use Rattle.meaning.proofs.Keys.{Alike}
-
-each-each : (f g : ℕ → ℕ) (xs : List ℕ) → each f (each g xs) ≡ each (λ k. f (g k)) xs
-each-each f g [] = refl
-each-each f g (x ∷ xs) = ap (λ (ys : List ℕ). f (g x) ∷ ys) (each-each f g xs)
-
-each-ext : (f g : ℕ → ℕ) → ((k : ℕ) → f k ≡ g k) → (xs : List ℕ) → each f xs ≡ each g xs
-each-ext f g e [] = refl
-each-ext f g e (x ∷ xs) = ap₂ _∷_ (e x) (each-ext f g e xs)
-
--- one more slot at the end of a list that is searched
-any-push : (t : ℕ → Bool) (xs : List ℕ) (i : ℕ) → anyOf t (xs ++ (i ∷ [])) ≡ (anyOf t xs || t i)
-any-push t [] i = grind arith
-any-push t (x ∷ xs) i = ap (λ b. t x || b) (any-push t xs i) ∙ grind arith
+use Rattle.meaning.proofs.Everywhere.{all-upto, each-each, each-ext, any-push}
 
 total-unless : (f : ℕ × ℕ → ℕ) (b : Bool) (x : ℕ × ℕ) (xs : List (ℕ × ℕ)) → sum f (cond b xs (x ∷ xs)) ≡ cond (not b) (f x) 0 + sum f xs
 total-unless f true x xs = omega arith
@@ -122,7 +110,7 @@ line a (suc n) = a ∷ line (suc a) n
 
 from-line : (a n : ℕ) → from a n ≡ line a n
 from-line a zero = refl
-from-line a (suc n) = ap₂ _∷_ (add-zero a) (each-each (λ k. a + k) suc (upto n) ∙ (each-ext (λ k. a + suc k) (λ k. suc a + k) (λ k. omega arith) (upto n) ∙ from-line (suc a) n))
+from-line a (suc n) = ap₂ _∷_ (add-zero a) (each-each (λ k. a + k) suc (upto n) ∙ (each-ext (λ k. a + suc k) (λ k. suc a + k) (upto n) (all-upto _ n (λ k h. omega arith)) ∙ from-line (suc a) n))
 
 line-push : (a n b : ℕ) → a + n ≡ b → line a (suc n) ≡ line a n ++ (b ∷ [])
 line-push a zero b e = ap (λ (x : ℕ). x ∷ []) (omega arith)

@@ -27,7 +27,8 @@ use Rattle.meaning.proofs.Spans.{list-cuts, map-cuts}
 use Rattle.meaning.proofs.Accepted.{target, Kind, step}
 use Rattle.meaning.proofs.Places.{held-child, found-child, found-kid}
 use Rattle.std.specs.shelf.Lists.{All}
-use Rattle.meaning.proofs.Everywhere.{all-upto, all-from, all-of, all-both, upto-at, some-ext, some-none, none-all, sum-ext, each-ext, joined-ext, length-slots, slot-at, pairs-in, pairs-same}
+use Rattle.std.proofs.shelf.Elements.{all-weaker}
+use Rattle.meaning.proofs.Everywhere.{all-upto, all-from, all-both, upto-at, some-ext, some-none, none-all, sum-ext, each-ext, joined-ext, length-slots, slot-at, pairs-in, pairs-same}
 use Rattle.meaning.proofs.Alike.{alike-key}
 use Rattle.meaning.proofs.Agreeing.{Agrees, agrees-unless, agrees-retest, agrees-test, agrees-pass, agrees-sought, agrees-as, agrees-taking}
 
@@ -300,7 +301,7 @@ module _ (m : Model) (pick : Pick) (cells : ℕ) where
       map-parts : (i : ℕ) → i < at m c .len → null (at m c) i ≡ false → entries (at m c) keys vals i ≡ parts m pick fields map (n + 1) c i
       map-parts i h e =
           ap (joined pair) (pairs-slots i h e)
-          ∙ joined-ext pair shown (kept same (spanSlots (at m c) i)) (all-of (λ kv. Live (kv .0) × Live (kv .1)) (λ kv. pair kv ≡ shown kv) pair-shown (kept same (spanSlots (at m c) i)) (pairs-in Live same (spanSlots (at m c) i) (live-cut i h e)))
+          ∙ joined-ext pair shown (kept same (spanSlots (at m c) i)) (all-weaker (λ kv. Live (kv .0) × Live (kv .1)) (λ kv. pair kv ≡ shown kv) pair-shown (kept same (spanSlots (at m c) i)) (pairs-in Live same (spanSlots (at m c) i) (live-cut i h e)))
 
       map-rows : rowValues (at m c) (at m c .len) mapLiteral (entries (at m c) keys vals) ≡ columnOf m pick map fields n c
       map-rows = each-ext _ (valueOf m pick map fields n c) (upto (at m c .len)) (all-upto _ (at m c .len) (λ i h.
