@@ -15,8 +15,8 @@ use Rattle.meaning.specs.Lists.{orZero}
 use Rattle.meaning.specs.Equal.{sameInteger}
 use Rattle.meaning.specs.Table.{Table, saturated, added, countOf, hasId}
 use Rattle.meaning.specs.CounterLaw.{sumOf, mentions, distinctIds}
-use Rattle.meaning.proofs.Ids.{same-self, same-eq}
-use Rattle.meaning.proofs.Tables.{Ascending, ascending-added, plus, counted-added, length-added, without, ascending-without, length-without, counted-without, has-counted, has-without, length-had}
+use Rattle.meaning.proofs.IdOrder.{same-self, same-eq}
+use Rattle.meaning.proofs.TableOrder.{Ascending, ascending-added, plus, counted-added, length-added, without, ascending-without, length-without, counted-without, has-counted, has-without, length-had}
 
 -- additions one after the other
 abbrev pub folded : Table → List (ℤ × ℕ) → Table

@@ -16,7 +16,7 @@ use Rattle.meaning.specs.Codes.{isStruct, isMap, struct?, map?}
 use Rattle.meaning.specs.Access.{kids}
 use Rattle.meaning.specs.Keeps.{Keeps, FieldsKeep, ColumnsKeep, Bytes, Lengths, Rising, Cuts, Within, Bodied, KeyFirst, Holds}
 use Rattle.meaning.proofs.Premises.{Exactly, Formed, Ascends, Cutting, Premises}
-use Rattle.meaning.proofs.Finds.{Tree, find-after, find-here, find-length, column-below}
+use Rattle.meaning.proofs.ColumnNumbers.{Tree, find-after, find-here, find-length, column-below}
 
 -- types hold exactly the fields that they name
 no-fields : (fs : Forest Field) → fs ≡ none → (s : Shape) → Holds s fs → Exactly s fs

@@ -12,7 +12,7 @@ use Rattle.meaning.specs.File.{decode}
 use Rattle.meaning.specs.Encode.{encode}
 use Rattle.meaning.specs.Keeps.{Bytes, Keeps}
 use Rattle.std.proofs.shelf.Elements.{all-weaker}
-use Rattle.meaning.proofs.Everywhere.{none-all}
+use Rattle.meaning.proofs.SlotLists.{none-all}
 use Rattle.meaning.proofs.Accepts.{accepts-law}
 
 -- no number of a list is 256 or more

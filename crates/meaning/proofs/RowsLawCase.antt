@@ -19,7 +19,7 @@ use Rattle.meaning.specs.Keeps.{Keeps}
 use Rattle.meaning.specs.Literals.{listed}
 use Rattle.meaning.specs.Converter.{conversion}
 use Rattle.meaning.proofs.KeepsRead.{keeps-read}
-use Rattle.meaning.proofs.Converting.{converted-law}
+use Rattle.meaning.proofs.ConvertedLaw.{converted-law}
 
 -- one map of Float to Double: keys NaN, 1, another NaN; values NaN, NaN, 1
 abbrev pub some : Model

@@ -10,7 +10,7 @@ use Rattle.meaning.specs.Model.{Column, Code, bits, words, variable, fixedSize
 use Rattle.meaning.specs.Slots.{spanBy}
 use Rattle.meaning.specs.Codes.{isList, isMap}
 use Rattle.meaning.proofs.Premises.{Ascends, Cutting}
-use Rattle.meaning.proofs.Totals.{Cuts}
+use Rattle.meaning.proofs.SlotSums.{Cuts}
 
 -- a fixed-size list cuts its child into equal parts
 fixed-inside : (i n s l : ℕ) → i < n → n ≡ l / s → (i + 1) * s ≤ l

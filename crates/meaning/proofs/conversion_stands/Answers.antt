@@ -1,5 +1,5 @@
 -- What the contract demands is the theorem.
-use Rattle.meaning.proofs.Converting.{converted-law}
+use Rattle.meaning.proofs.ConvertedLaw.{converted-law}
 use Rattle.meaning.proofs.conversion_stands.Needs as need
 
 pub returns : need.returns

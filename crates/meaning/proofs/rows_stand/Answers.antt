@@ -1,5 +1,5 @@
 -- What the contract demands is the theorem.
-use Rattle.meaning.proofs.Rowlaw.{rows-law}
+use Rattle.meaning.proofs.RowsLaw.{rows-law}
 use Rattle.meaning.proofs.rows_stand.Needs as need
 
 pub returns : need.returns

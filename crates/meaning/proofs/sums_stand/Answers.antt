@@ -1,5 +1,5 @@
 -- What the contract demands is the theorem.
-use Rattle.meaning.proofs.Sums.{sums-law}
+use Rattle.meaning.proofs.SumsLaw.{sums-law}
 use Rattle.meaning.proofs.sums_stand.Needs as need
 
 pub returns : need.returns

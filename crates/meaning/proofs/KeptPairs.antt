@@ -9,8 +9,8 @@ use native.Mathlib.Omega.{arith}
 use Rattle.std.proofs.shelf.Tests.{cases-bool}
 use Rattle.meaning.specs.Lists.{upto, from, anyOf, sum}
 use Rattle.meaning.specs.Rows.{lastSame, keptFrom, kept}
-use Rattle.meaning.proofs.Keys.{Alike}
-use Rattle.meaning.proofs.Everywhere.{all-upto, each-each, each-ext, any-push}
+use Rattle.meaning.proofs.KeyEquality.{Alike}
+use Rattle.meaning.proofs.SlotLists.{all-upto, each-each, each-ext, any-push}
 
 total-unless : (f : ℕ × ℕ → ℕ) (b : Bool) (x : ℕ × ℕ) (xs : List (ℕ × ℕ)) → sum f (cond b xs (x ∷ xs)) ≡ cond (not b) (f x) 0 + sum f xs
 total-unless f true x xs = omega arith

@@ -23,12 +23,12 @@ use Rattle.meaning.specs.Nans.{nanLiteral, sumElements, sumPairs, nansIn}
 use Rattle.meaning.specs.Reaches.{reaches, shownWithin}
 use Rattle.meaning.specs.Keeps.{Plain}
 use Rattle.meaning.proofs.Premises.{key-plain, Exactly, Formed, Premises}
-use Rattle.meaning.proofs.Keys.{same-alike}
-use Rattle.meaning.proofs.Totals.{sumTo, anyTo, any-upto, sum-ext, sum-none, sum-add, sum-cond, Cuts, hit, sum-cuts}
-use Rattle.meaning.proofs.Pairs.{sum-kept}
+use Rattle.meaning.proofs.KeyEquality.{same-alike}
+use Rattle.meaning.proofs.SlotSums.{sumTo, anyTo, any-upto, sum-ext, sum-none, sum-add, sum-cond, Cuts, hit, sum-cuts}
+use Rattle.meaning.proofs.KeptPairs.{sum-kept}
 use Rattle.meaning.proofs.Spans.{list-cuts, map-cuts}
-use Rattle.meaning.proofs.Accepted.{target, Step, step, item-nan}
-use Rattle.meaning.proofs.Found.{Good, good-at, good-none, good-then, good-under, good-one}
+use Rattle.meaning.proofs.AcceptedSteps.{target, Step, step, item-nan}
+use Rattle.meaning.proofs.FoundReaches.{Good, good-at, good-none, good-then, good-under, good-one}
 
 -- no parts, no NaNs; and a primitive has none in its parts
 nans-none : (id : ℤ) (fs : Forest Field) (s : Shape) → nansIn id fs s none ≡ 0

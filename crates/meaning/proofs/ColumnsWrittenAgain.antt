@@ -16,9 +16,9 @@ use Rattle.meaning.specs.Columns.{Need, free, exact, meets, Offsets, past, unl
 use Rattle.meaning.specs.Columns.{parts as share}
 use Rattle.meaning.specs.Encode.{numeral as numberBytes, text as textBytes, optional, columnCode, offsets as offsetBytes, bodyBytes, columnBytes}
 use Rattle.meaning.specs.Keeps.{levels, Bytes, Short, Within, Lengths, Cuts, Stored, Bodied, Validity, ColumnsKeep}
-use Rattle.meaning.proofs.Reading.{Came, Both, parts, refused-not, given, Item, item, exactly-from, number-from, text-from, flag-from, item-then, item-same}
+use Rattle.meaning.proofs.Readers.{Came, Both, parts, refused-not, given, Item, item, exactly-from, number-from, text-from, flag-from, item-then, item-same}
 use Rattle.meaning.proofs.ColumnItems.{offsets-from, unless-past, length-from, Detail, code-from, optional-from, none-past}
-use Rattle.meaning.proofs.ColumnsTo.{lengths-map, columnHead}
+use Rattle.meaning.proofs.ColumnsReadBack.{lengths-map, columnHead}
 
 pub record ColumnsRead (l k : ℕ) (need : Need) (os : Offsets) (n : ℕ) (r : Rest) (cs : Forest Column) (s : Rest) : Type 0 where
   pub item : Item r (columnBytes cs) s

@@ -14,9 +14,9 @@ use Rattle.meaning.specs.Equal.{sameInteger}
 use Rattle.meaning.specs.Codes.{float?}
 use Rattle.meaning.specs.Nans.{nans, hiddenNans}
 use Rattle.meaning.specs.Reaches.{Reach}
-use Rattle.meaning.proofs.Totals.{sumTo, tally-upto, sum-none}
+use Rattle.meaning.proofs.SlotSums.{sumTo, tally-upto, sum-none}
 use Rattle.meaning.proofs.Codes.{no-nan}
-use Rattle.meaning.proofs.Found.{shownNans, shownIn}
+use Rattle.meaning.proofs.FoundReaches.{shownNans, shownIn}
 
 -- a column's NaNs are the shown and the hidden ones, and no more than its slots
 tally-split : (p q : ℕ → Bool) (xs : List ℕ) → tally p xs ≡ tally (λ i. p i && q i) xs + tally (λ i. p i && not (q i)) xs

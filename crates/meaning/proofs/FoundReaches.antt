@@ -16,7 +16,7 @@ use Rattle.meaning.specs.Access.{StepFault}
 use Rattle.meaning.specs.Lists.{sum}
 use Rattle.meaning.specs.Equal.{sameInteger}
 use Rattle.meaning.specs.Reaches.{Reach, Found, followedBy, atPartner, oneReach}
-use Rattle.meaning.proofs.Totals.{sumTo}
+use Rattle.meaning.proofs.SlotSums.{sumTo}
 
 module _ (m : Model) (id : ℤ) where
   -- the NaNs of a reach at shown slots, and of reaches under the id

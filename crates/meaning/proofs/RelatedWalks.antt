@@ -8,7 +8,7 @@ use Rattle.meaning.specs.Forest.{Forest, none, tree, size}
 use Rattle.meaning.specs.Model.{Model, Field, Shape, prim, struct, list, map}
 use Rattle.meaning.specs.Access.{Pick, StepFault, partner}
 use Rattle.meaning.specs.Walk.{Step, ret, bind, Role, structField, listElement, mapKey, mapValue, role, Hooks, close, finish, walk, bindResult, visitType, visitStruct}
-use Rattle.meaning.proofs.Alongside.{Ties, Both, Vals, Nothing, Alongside}
+use Rattle.meaning.proofs.RelatedVisitors.{Ties, Both, Vals, Nothing, Alongside}
 
 module _ {S S′ T T′ : Type 0} (k : Ties S S′ T T′) where
   -- from an earlier state, and one step after another

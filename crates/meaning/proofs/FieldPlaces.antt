@@ -16,7 +16,7 @@ use Rattle.meaning.specs.Lists.{among}
 use Rattle.meaning.specs.Access.{kids}
 use Rattle.meaning.specs.Walk.{fieldAt, typeOf, typeAt, missing, absentColumn}
 use Rattle.meaning.specs.Converter.{holderIn, holder}
-use Rattle.meaning.proofs.Finds.{Tree, some-is, find-end, among-range, column-child}
+use Rattle.meaning.proofs.ColumnNumbers.{Tree, some-is, find-end, among-range, column-child}
 
 -- the fields that a walk has before it, from field n on, are the schema's under their numbers
 module _ (m : Model) where

@@ -14,10 +14,20 @@ use Rattle.meaning.specs.Equal.{sameInteger, sameBytes, sameBoolean}
 use Rattle.meaning.specs.Literals.{Literal, nullLiteral, booleanLiteral, intLiteral, longLiteral, floatLiteral, doubleLiteral, bytesLiteral, structLiteral, listLiteral, mapLiteral, same32, same64, Value, sameLiteral}
 use Rattle.meaning.specs.Rows.{lastSame, keptFrom, kept}
 use Rattle.meaning.specs.Converter.{slot, keptPairs}
-use Rattle.meaning.proofs.Inserted.{inserted, insertedAll}
-use Rattle.meaning.proofs.Everywhere.{any-push}
-use Rattle.meaning.proofs.Keys.{Alike, numbers, bytes, truths, singles, doubles}
+use Rattle.meaning.proofs.SlotLists.{any-push}
+use Rattle.meaning.proofs.KeyEquality.{Alike, numbers, bytes, truths, singles, doubles}
 use Rattle.std.specs.shelf.Lists.{All}
+
+-- a map's pairs, put in one after another: a key that is there takes the new value at its place, another goes to the end;
+-- pairs are (key slot, value slot), as in `kept`
+abbrev pub inserted : (ℕ → ℕ → Bool) → List (ℕ × ℕ) → ℕ → List (ℕ × ℕ)
+inserted same [] j = (j, j) ∷ []
+inserted same (kv ∷ kvs) j = cond (same (kv .0) j) ((kv .0, j) ∷ kvs) (kv ∷ inserted same kvs j)
+
+-- all slots of a list, one after another
+abbrev pub insertedAll : (ℕ → ℕ → Bool) → List (ℕ × ℕ) → List ℕ → List (ℕ × ℕ)
+insertedAll same kvs [] = kvs
+insertedAll same kvs (j ∷ js) = insertedAll same (inserted same kvs j) js
 
 -- a test that goes both ways and on
 pub record Linked {X : Type 0} (same : X → X → Bool) : Type 0 where

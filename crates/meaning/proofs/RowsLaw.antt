@@ -25,13 +25,13 @@ use Rattle.meaning.specs.Nans.{nans, nansIn}
 use Rattle.meaning.specs.Table.{Table, countOf, Answer, answer}
 use Rattle.meaning.specs.CounterLaw.{Call, computes, floatAdditions, sumOf, hiddenNansOf, rowNans, Rows-law}
 use Rattle.meaning.proofs.KeepsPremises.{keeps-premises}
-use Rattle.meaning.proofs.Totals.{total-upto, sum-ext}
-use Rattle.meaning.proofs.Accepted.{chain-ok}
-use Rattle.meaning.proofs.Found.{Good}
-use Rattle.meaning.proofs.Conserved.{inParts, conserves}
-use Rattle.meaning.proofs.Nans.{reachSum, sum-hidden, reach-bound, nans-small, nans-none}
+use Rattle.meaning.proofs.SlotSums.{total-upto, sum-ext}
+use Rattle.meaning.proofs.AcceptedSteps.{chain-ok}
+use Rattle.meaning.proofs.FoundReaches.{Good}
+use Rattle.meaning.proofs.ShownNans.{inParts, conserves}
+use Rattle.meaning.proofs.NanSums.{reachSum, sum-hidden, reach-bound, nans-small, nans-none}
 use Rattle.meaning.proofs.Additions.{folded, length-distinct, distinct-most, count-folded}
-use Rattle.meaning.proofs.Sums.{adding-all}
+use Rattle.meaning.proofs.SumsLaw.{adding-all}
 
 module _ (c : Call) (id : ℤ) where
   abbrev m : Model

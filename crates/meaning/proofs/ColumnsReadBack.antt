@@ -12,7 +12,7 @@ use Rattle.meaning.specs.Items.{column, Read, _then_, give, exactly, number, t
 use Rattle.meaning.specs.Columns.{Need, free, exact, parts, meets, Offsets, past, unless, offsets, values, Columns, body, bodyOf, widthOf, columned, siblings, columns}
 use Rattle.meaning.specs.Encode.{numeral as numberBytes, text as textBytes, flag as flagBytes, optional, columnCode, offsets as offsetBytes, bodyBytes, columnBytes}
 use Rattle.meaning.specs.Keeps.{levels, Short, Rising, Within, Lengths, Cuts, Stored, Bodied, Validity, ColumnsKeep}
-use Rattle.meaning.proofs.Reading.{from, Reads, reads-then, reads-give, carried, exactly-to, number-to, text-to, flag-to}
+use Rattle.meaning.proofs.Readers.{from, Reads, reads-then, reads-give, carried, exactly-to, number-to, text-to, flag-to}
 use Rattle.meaning.proofs.FieldsRead.{count-size}
 use Rattle.meaning.proofs.ColumnItems.{offsets-to, past-none, length-to, Detail, code-to, has, tail, optional-parts, maybe-to}
 

@@ -14,7 +14,7 @@ use Rattle.std.proofs.shelf.Tests.{cases-bool}
 use Rattle.meaning.specs.Equal.{sameInteger}
 use Rattle.meaning.specs.Table.{CountEntry, Table, saturated, added, countOf, hasId}
 use lib.Signed.{ltZ}
-use Rattle.meaning.proofs.Ids.{same-self, same-eq, below-apart, below-on, below-else}
+use Rattle.meaning.proofs.IdOrder.{same-self, same-eq, below-apart, below-on, below-else}
 
 -- every entry's id is above this one
 abbrev pub Above : ℤ → Table → Type 0

@@ -18,11 +18,11 @@ use Rattle.meaning.proofs.KeepsPremises.{keeps-premises}
 use Rattle.meaning.proofs.Premises.{Premises, Formed}
 use Rattle.meaning.specs.Walk.{Step, ret, bind, role, close, finish, walk, bindResult, visitStruct}
 use Rattle.meaning.specs.Converter.{converter, conversion, Converted, Converted-law}
-use Rattle.meaning.proofs.Accepted.{target, Kind, partner-kind}
-use Rattle.meaning.proofs.Places.{Placed, placed-all, placed-here, placed-type, placed-below, placed-rest}
-use Rattle.meaning.proofs.Everywhere.{all-upto, each-ext}
-use Rattle.meaning.proofs.Agreeing.{Agrees, agrees-then, agrees-push, chain-chain}
-use Rattle.meaning.proofs.Steps.{valueOf, columnOf, results, close-agrees, target-found, finish-agrees}
+use Rattle.meaning.proofs.AcceptedSteps.{target, Kind, partner-kind}
+use Rattle.meaning.proofs.FieldPlaces.{Placed, placed-all, placed-here, placed-type, placed-below, placed-rest}
+use Rattle.meaning.proofs.SlotLists.{all-upto, each-ext}
+use Rattle.meaning.proofs.StepAgreement.{Agrees, agrees-then, agrees-push, chain-chain}
+use Rattle.meaning.proofs.ConverterSteps.{valueOf, columnOf, results, close-agrees, target-found, finish-agrees}
 
 module _ (m : Model) (pick : Pick) (cells : ℕ) (keeps : Premises m) (mine : Own m pick) where
   abbrev conv : Forest Field → Shape → ℕ → ℕ → ℕ → Step ℕ (List (List Value))

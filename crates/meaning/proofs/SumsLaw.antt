@@ -17,7 +17,7 @@ use Rattle.meaning.specs.Nans.{nans}
 use Rattle.meaning.specs.Reaches.{Reach, reached}
 use Rattle.meaning.specs.Table.{Table, added, countOf, hasId, Answer, answer, addReaches}
 use Rattle.meaning.specs.CounterLaw.{Call, sumOf, mentions, Reordered, done, skip, swap, trans, computes, answers, Sums-law, floatAdditions, tableAfter, allAdditions, FewIds}
-use Rattle.meaning.proofs.Tables.{alike-equal, length-new}
+use Rattle.meaning.proofs.TableOrder.{alike-equal, length-new}
 use Rattle.meaning.proofs.Additions.{folded, folded-both, ascending-folded, length-folded, sum-folded, length-distinct, distinct-length, sumOf-both, mentions-both, sumOf-turn, mentions-turn}
 
 -- while the table has room for all that is to come, nothing is refused

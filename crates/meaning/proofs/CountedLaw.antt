@@ -21,10 +21,10 @@ use Rattle.meaning.specs.Table.{hasRoom, Table, added, Answer, addReaches}
 use Rattle.meaning.specs.Walk.{Step, ret, bind, Role, structField, listElement, mapKey, mapValue, role, fieldAt, missing, close, finish, walk, bindResult, refuseIf}
 use Rattle.meaning.proofs.Premises.{Exactly, Formed}
 use Rattle.meaning.specs.Counter.{counter, Counted-law, countReach, countReachBy, computeWalk}
-use Rattle.meaning.proofs.Accepted.{partner-kind}
-use Rattle.meaning.proofs.Steps.{target-found}
+use Rattle.meaning.proofs.AcceptedSteps.{partner-kind}
+use Rattle.meaning.proofs.ConverterSteps.{target-found}
 use Rattle.meaning.proofs.KeepsPremises.{keeps-formed}
-use Rattle.meaning.proofs.Places.{Placed, placed-all, placed-here, placed-below, placed-rest}
+use Rattle.meaning.proofs.FieldPlaces.{Placed, placed-all, placed-here, placed-below, placed-rest}
 
 abbrev Outcome : Type 0
 Outcome = Answer × Table

@@ -22,15 +22,15 @@ use Rattle.meaning.specs.Keeps.{Plain, Bytes}
 use Rattle.meaning.proofs.Premises.{Cutting, Premises, Exactly, Formed}
 use Rattle.meaning.specs.Walk.{Step, mapKey, mapValue, role, fieldAt, typeAt, missing, close, finish, refuseIf}
 use Rattle.meaning.specs.Converter.{slot, primOf, structOf, listOf, mapOf, requiredOf, holder, pastEnd, elements, entries, pairCells, uneven, taking, fieldStep, converter, nullInSpan, listRows, rowValues, fieldParts, keptPairs, nullRequired}
-use Rattle.meaning.proofs.Totals.{Cuts}
+use Rattle.meaning.proofs.SlotSums.{Cuts}
 use Rattle.meaning.proofs.Spans.{list-cuts, map-cuts}
-use Rattle.meaning.proofs.Accepted.{target, Kind, step}
-use Rattle.meaning.proofs.Places.{held-child, found-child, found-kid}
+use Rattle.meaning.proofs.AcceptedSteps.{target, Kind, step}
+use Rattle.meaning.proofs.FieldPlaces.{held-child, found-child, found-kid}
 use Rattle.std.specs.shelf.Lists.{All}
 use Rattle.std.proofs.shelf.Elements.{all-weaker}
-use Rattle.meaning.proofs.Everywhere.{all-upto, all-from, all-both, upto-at, some-ext, some-none, none-all, sum-ext, each-ext, joined-ext, length-slots, slot-at, pairs-in, pairs-same}
-use Rattle.meaning.proofs.Alike.{alike-key}
-use Rattle.meaning.proofs.Agreeing.{Agrees, agrees-unless, agrees-retest, agrees-test, agrees-pass, agrees-sought, agrees-as, agrees-taking}
+use Rattle.meaning.proofs.SlotLists.{all-upto, all-from, all-both, upto-at, some-ext, some-none, none-all, sum-ext, each-ext, joined-ext, length-slots, slot-at, pairs-in, pairs-same}
+use Rattle.meaning.proofs.KeysBySlot.{alike-key}
+use Rattle.meaning.proofs.StepAgreement.{Agrees, agrees-unless, agrees-retest, agrees-test, agrees-pass, agrees-sought, agrees-as, agrees-taking}
 
 -- a value is null exactly if its slot is
 literal-null : (p : Primitive) (x : Column) (i : ℕ) → isNullLiteral (primitiveLiteral p x i) ≡ false
