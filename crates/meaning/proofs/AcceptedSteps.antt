@@ -16,7 +16,7 @@ use Rattle.meaning.specs.Forest.{Forest, none, tree, size}
 use Rattle.meaning.specs.Model.{Model, Column, Field, Shape, prim, struct, list, map, Primitive, boolean, int, long, float, double, date, time, timestamp, timestamptz, timestampNs, timestamptzNs, string, uuid, fixed, binary, Code, at}
 use Rattle.meaning.specs.Slots.{null, nan, nanBy}
 use Rattle.meaning.specs.Codes.{codeNumber, codeDetail, isStruct, isList, isMap, struct?, list?, map?}
-use Rattle.meaning.specs.Access.{Pick, StepFault, fault, kids, partner, orRefused}
+use Rattle.meaning.specs.Access.{Pick, StepFault, fault, partner, orRefused, childNumbers}
 use Rattle.meaning.specs.Lists.{orZero}
 use Rattle.meaning.specs.Literals.{nullLiteral, literalBy, literalAt}
 use Rattle.meaning.specs.Converts.{hasNumber, detailIs, hasWidth, accepts, takes, fieldHook, ownHook, checkFields, andThen}
@@ -88,8 +88,8 @@ module _ (m : Model) (pick : Pick) (cells : ℕ) where
   abbrev pub target : Shape → ℕ → ℕ → ℕ → ℕ
   target (prim p) up c n = 0
   target struct up c n = orZero (pick c n)
-  target list up c n = getD (kids m c) 0 0
-  target map up c n = getD (kids m c) (cond (eqb n (up + 1)) 0 1) 0
+  target list up c n = getD (childNumbers m c) 0 0
+  target map up c n = getD (childNumbers m c) (cond (eqb n (up + 1)) 0 1) 0
 
   abbrev pub Kind : Shape → ℕ → ℕ → Type 0
   Kind (prim p) c n = ⊥
@@ -104,8 +104,8 @@ module _ (m : Model) (pick : Pick) (cells : ℕ) where
       let k : pick c n ≡ Some p = ok-some (pick c n) (fault 11 c n) p (h .1) in
       ((h .0, k ∙ ap (λ (o : Option ℕ). Some (orZero o)) (sym k)), sym (ap orZero k))
   partner-kind list up c n p e =
-      let h : (list? m c ≡ true) × (Ok (getD (kids m c) 0 0) ≡ Ok p) = ok-test (list? m c) (Ok (getD (kids m c) 0 0)) (fault 12 c up) p e in
-      (h .0, sym (ok-is (getD (kids m c) 0 0) p (h .1)))
+      let h : (list? m c ≡ true) × (Ok (getD (childNumbers m c) 0 0) ≡ Ok p) = ok-test (list? m c) (Ok (getD (childNumbers m c) 0 0)) (fault 12 c up) p e in
+      (h .0, sym (ok-is (getD (childNumbers m c) 0 0) p (h .1)))
   partner-kind map up c n p e =
       let h : (map? m c ≡ true) × (Ok (target map up c n) ≡ Ok p) = ok-test (map? m c) (Ok (target map up c n)) (fault 13 c up) p e in
       (h .0, sym (ok-is (target map up c n) p (h .1)))

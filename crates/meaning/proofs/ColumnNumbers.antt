@@ -11,7 +11,7 @@ use Rattle.meaning.specs.Forest.{Forest, none, tree, size, numbers, find}
 use Rattle.meaning.specs.Model.{Model, Column, batch, column, below}
 use Rattle.meaning.specs.Lists.{among}
 use Rattle.meaning.specs.Keeps.{Lengths}
-use Rattle.meaning.specs.Access.{kids}
+use Rattle.meaning.specs.Access.{childNumbers}
 
 -- a column and what is below it
 abbrev pub Tree : Type 0
@@ -89,7 +89,7 @@ column-below m (suc c) zero u v e f = absurd (let t = find-end (u .1) 0 (suc c +
 column-below m (suc c) (suc k) u v e f = find-nested (m .columns) (suc c) 1 (suc k) u v e f
 
 -- so a column's child is a column
-pub column-child : (m : Model) (c k : ℕ) → among k (kids m c) ≡ true → (v : Tree) × (column m k ≡ Some v)
+pub column-child : (m : Model) (c k : ℕ) → among k (childNumbers m c) ≡ true → (v : Tree) × (column m k ≡ Some v)
 column-child m c k a = go (column m c) refl a
   where
     go : (o : Option Tree) → column m c ≡ o → among k (numbers (c + 1) (below o)) ≡ true → (v : Tree) × (column m k ≡ Some v)

@@ -13,7 +13,7 @@ use Rattle.meaning.specs.Keeps.{Keeps}
 use Rattle.meaning.specs.Lists.{among}
 use Rattle.meaning.specs.Samples.{sampleField, sampleColumn}
 use Rattle.meaning.proofs.KeepsRead.{keeps-read}
-use Rattle.meaning.specs.Access.{Pick, Own, fault, kids}
+use Rattle.meaning.specs.Access.{Pick, Own, fault, childNumbers}
 use Rattle.meaning.specs.Table.{countOf}
 use Rattle.meaning.specs.CounterLaw.{Call, computes, tableAfter, FewIds}
 
@@ -34,7 +34,7 @@ firstOnly (suc c) n = None
 
 own : (id : ℤ) → Own (small id) firstOnly
 own id zero zero k h = cc
-own id zero (suc zero) k h = let e : _≡_ {A = ℕ} 1 k = cc in subst (λ (n : ℕ). among n (kids (small id) 0) ≡ true) e refl
+own id zero (suc zero) k h = let e : _≡_ {A = ℕ} 1 k = cc in subst (λ (n : ℕ). among n (childNumbers (small id) 0) ≡ true) e refl
 own id zero (suc (suc n)) k h = cc
 own id (suc c) n k h = cc
 

@@ -13,7 +13,7 @@ use Rattle.std.proofs.shelf.Tests.{eqb-true, eq-eqb, ne-eqb, lt-ltb, le-ltb, co
 use Rattle.meaning.specs.Forest.{Forest, none, tree, size, numbers, find}
 use Rattle.meaning.specs.Model.{Model, Field, Column, below}
 use Rattle.meaning.specs.Lists.{among}
-use Rattle.meaning.specs.Access.{kids}
+use Rattle.meaning.specs.Access.{childNumbers}
 use Rattle.meaning.specs.Walk.{fieldAt, typeOf, typeAt, missing, absentColumn}
 use Rattle.meaning.specs.Converter.{holderIn, holder}
 use Rattle.meaning.proofs.ColumnNumbers.{Tree, some-is, find-end, among-range, column-child}
@@ -88,7 +88,7 @@ held-below (tree h ks rest) c k up n v e a =
     pass false false t e x y = let g = far in let r = find-end rest c (n + 1 + size ks) v e in past (omega arith) (y e)
 
 -- a column's child has it for its holder
-pub held-child : (m : Model) (c k : ℕ) → among k (kids m c) ≡ true → holder m k ≡ c
+pub held-child : (m : Model) (c k : ℕ) → among k (childNumbers m c) ≡ true → holder m k ≡ c
 held-child m zero k a = held-beside (m .columns) k 0 1 a
 held-child m (suc c) k a = go (find (suc c) 1 (m .columns)) refl a
   where
@@ -97,7 +97,7 @@ held-child m (suc c) k a = go (find (suc c) 1 (m .columns)) refl a
     go (Some v) e a = held-below (m .columns) (suc c) k 0 1 v e a
 
 -- a column's child is a column
-pub found-child : (m : Model) (c k : ℕ) → among k (kids m c) ≡ true → missing m k ≡ false
+pub found-child : (m : Model) (c k : ℕ) → among k (childNumbers m c) ≡ true → missing m k ≡ false
 found-child m c k a = ap absentColumn (column-child m c k a .1)
 
 -- so is the child at a place; where there is none the place says 0, which is the batch
@@ -106,5 +106,5 @@ getD-among [] i = inl refl
 getD-among (n ∷ ns) zero = inr (or-left (eqb n n) (among n ns) (eq-eqb n n refl))
 getD-among (n ∷ ns) (suc i) = ⊎-elim (λ e. inl e) (λ e. inr (or-right (eqb (getD ns i 0) n) (among (getD ns i 0) ns) e)) (getD-among ns i)
 
-pub found-kid : (m : Model) (c i : ℕ) → missing m (getD (kids m c) i 0) ≡ false
-found-kid m c i = ⊎-elim (λ e. ap (missing m) e) (λ e. found-child m c (getD (kids m c) i 0) e) (getD-among (kids m c) i)
+pub found-kid : (m : Model) (c i : ℕ) → missing m (getD (childNumbers m c) i 0) ≡ false
+found-kid m c i = ⊎-elim (λ e. ap (missing m) e) (λ e. found-child m c (getD (childNumbers m c) i 0) e) (getD-among (childNumbers m c) i)

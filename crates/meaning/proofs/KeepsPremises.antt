@@ -13,7 +13,7 @@ use Rattle.meaning.specs.Forest.{Forest, none, tree, size, count, numbers, fin
 use Rattle.meaning.specs.Model.{Model, Field, Column, Shape, prim, struct, list, map, Code, bits, words, variable, fixedSizeBinary, structs, lists, largeLists, fixedSizeLists, maps, column, head, below, at}
 use Rattle.meaning.specs.Lists.{among}
 use Rattle.meaning.specs.Codes.{isStruct, isMap, struct?, map?}
-use Rattle.meaning.specs.Access.{kids}
+use Rattle.meaning.specs.Access.{childNumbers}
 use Rattle.meaning.specs.Keeps.{Keeps, FieldsKeep, ColumnsKeep, Bytes, Lengths, Rising, Cuts, Within, Bodied, KeyFirst, Holds}
 use Rattle.meaning.proofs.Premises.{Exactly, Formed, Ascends, Cutting, Premises}
 use Rattle.meaning.proofs.ColumnNumbers.{Tree, find-after, find-here, find-length, column-below}
@@ -24,18 +24,18 @@ no-fields none e (prim p) h = tt
 no-fields none e struct h = tt
 no-fields none e list h = absurd (omega arith)
 no-fields none e map h = absurd (omega (arith, h .0))
-no-fields (tree f kids rest) e s h = let z : 1 + count rest ≡ 0 = ap count e in absurd (omega arith)
+no-fields (tree f ks rest) e s h = let z : 1 + count rest ≡ 0 = ap count e in absurd (omega arith)
 
 exactly-list : (fs : Forest Field) → count fs ≡ 1 → Exactly list fs
 exactly-list none n = absurd (omega arith)
-exactly-list (tree f kids none) n = tt
-exactly-list (tree f kids (tree g under rest)) n = absurd (omega arith)
+exactly-list (tree f ks none) n = tt
+exactly-list (tree f ks (tree g under rest)) n = absurd (omega arith)
 
 exactly-map : (fs : Forest Field) → count fs ≡ 2 → KeyFirst fs → Exactly map fs
 exactly-map none n k = absurd (omega arith)
-exactly-map (tree f kids none) n k = absurd (omega arith)
-exactly-map (tree f kids (tree g under none)) n k = k
-exactly-map (tree f kids (tree g under (tree i over rest))) n k = absurd (omega arith)
+exactly-map (tree f ks none) n k = absurd (omega arith)
+exactly-map (tree f ks (tree g under none)) n k = k
+exactly-map (tree f ks (tree g under (tree i over rest))) n k = absurd (omega arith)
 
 exactly : (s : Shape) (fs : Forest Field) → Holds s fs → Exactly s fs
 exactly (prim p) fs h = no-fields fs (h .1) (prim p) h
@@ -45,7 +45,7 @@ exactly map fs h = exactly-map fs (h .0) (h .1)
 
 formed : (fs : Forest Field) → FieldsKeep fs → Formed fs
 formed none k = tt
-formed (tree f kids rest) k = (exactly (f .shape) kids (k .2), formed kids (k .3), formed rest (k .4))
+formed (tree f ks rest) k = (exactly (f .shape) ks (k .2), formed ks (k .3), formed rest (k .4))
 
 pub keeps-formed : (m : Model) → Keeps m → Formed (m .fields)
 keeps-formed m k = formed (m .fields) (k .fields)
@@ -54,16 +54,16 @@ keeps-formed m k = formed (m .fields) (k .fields)
 no-bytes : (bs : List ℕ) → bs ≡ [] → Bytes bs
 no-bytes bs e = subst Bytes (sym e) tt
 
-bodied : (k : Code) (x : Column) (kids : Forest Column) → Bodied k x kids → Bytes (x .body)
-bodied bits x kids b = b .1
-bodied (words w) x kids b = b .1
-bodied (variable t) x kids b = b .2
-bodied (fixedSizeBinary w) x kids b = b .2 .1
-bodied structs x kids b = no-bytes (x .body) (b .1)
-bodied lists x kids b = no-bytes (x .body) (b .1)
-bodied largeLists x kids b = no-bytes (x .body) (b .1)
-bodied (fixedSizeLists s) x kids b = no-bytes (x .body) (b .3)
-bodied maps x kids b = no-bytes (x .body) (b .1)
+bodied : (k : Code) (x : Column) (ks : Forest Column) → Bodied k x ks → Bytes (x .body)
+bodied bits x ks b = b .1
+bodied (words w) x ks b = b .1
+bodied (variable t) x ks b = b .2
+bodied (fixedSizeBinary w) x ks b = b .2 .1
+bodied structs x ks b = no-bytes (x .body) (b .1)
+bodied lists x ks b = no-bytes (x .body) (b .1)
+bodied largeLists x ks b = no-bytes (x .body) (b .1)
+bodied (fixedSizeLists s) x ks b = no-bytes (x .body) (b .3)
+bodied maps x ks b = no-bytes (x .body) (b .1)
 
 -- offsets
 rises : (top last : ℕ) (os : List ℕ) → Rising top last os → (i : ℕ) → suc i < length os → getD os i 0 ≤ getD os (suc i) 0
@@ -124,7 +124,7 @@ module _ (m : Model) (r : Keeps m) where
   long-of x ks (fixedSizeLists s) e b = absurd (false≢true e)
   long-of x ks maps e b = absurd (false≢true e)
 
-  level : (c k : ℕ) → struct? m c ≡ true → among k (kids m c) ≡ true → at m k .len ≡ at m c .len
+  level : (c k : ℕ) → struct? m c ≡ true → among k (childNumbers m c) ≡ true → at m k .len ≡ at m c .len
   level c k e a = go (column m c) refl (well c) e a
     where
       go : (o : Option Tree) → column m c ≡ o → Well o → isStruct (head o .code) ≡ true → among k (numbers (c + 1) (below o)) ≡ true → at m k .len ≡ head o .len
@@ -156,7 +156,7 @@ module _ (m : Model) (r : Keeps m) where
   cut-of c maps x (tree y ls none) p b = absurd (omega (arith, b .2))
   cut-of c maps x (tree y ls (tree z ks rest)) p b = subst (λ l. Ascends x l) (sym (first-len c x y ls (tree z ks rest) p)) (ascends 4 x (y .len) (b .0) (b .3 .0))
 
-  cutting : (c : ℕ) → Cutting (at m c .code) (at m c) (at m (getD (kids m c) 0 0) .len)
+  cutting : (c : ℕ) → Cutting (at m c .code) (at m c) (at m (getD (childNumbers m c) 0 0) .len)
   cutting c = go (column m c) refl (well c)
     where
       go : (o : Option Tree) → column m c ≡ o → Well o → Cutting (head o .code) (head o) (at m (getD (numbers (c + 1) (below o)) 0 0) .len)
@@ -177,7 +177,7 @@ module _ (m : Model) (r : Keeps m) where
   pair-of c maps x (tree y ls none) e p b = absurd (omega (arith, b .2))
   pair-of c maps x (tree y ls (tree z ks rest)) e p b = second-len c x y z ls ks rest p ∙ (b .4 .1 .0 ∙ sym (first-len c x y ls (tree z ks rest) p))
 
-  paired : (c : ℕ) → map? m c ≡ true → at m (getD (kids m c) 1 0) .len ≡ at m (getD (kids m c) 0 0) .len
+  paired : (c : ℕ) → map? m c ≡ true → at m (getD (childNumbers m c) 1 0) .len ≡ at m (getD (childNumbers m c) 0 0) .len
   paired c e = go (column m c) refl (well c) e
     where
       go : (o : Option Tree) → column m c ≡ o → Well o → isMap (head o .code) ≡ true → at m (getD (numbers (c + 1) (below o)) 1 0) .len ≡ at m (getD (numbers (c + 1) (below o)) 0 0) .len

@@ -10,7 +10,7 @@ use Rattle.std.proofs.shelf.Tests.{eq-eqb, or-left, or-right}
 use Rattle.meaning.specs.Forest.{Forest, none, tree, size, numbers, find}
 use Rattle.meaning.specs.Model.{Model, Field, Column, children}
 use Rattle.meaning.specs.Lists.{among}
-use Rattle.meaning.specs.Access.{Own, kids}
+use Rattle.meaning.specs.Access.{Own, childNumbers}
 use Rattle.meaning.specs.Equal.{sameBytes}
 use Rattle.meaning.specs.Picks.{byField, byId, byName, readId, isId, firstChild}
 
@@ -23,7 +23,7 @@ first-among f n k (tree x below rest) e = go (f x) e (first-among f (n + 1 + siz
     go true e r = let d : k ≡ n = cc in or-left (eqb k n) (among k (numbers (n + 1 + size below) rest)) (eq-eqb k n d)
     go false e r = or-right (eqb k n) (among k (numbers (n + 1 + size below) rest)) (r e)
 
-field-among : (f : Field → Column → Bool) (m : Model) (c k : ℕ) (o : Option (Field × Forest Field)) → byField f m c o ≡ Some k → among k (kids m c) ≡ true
+field-among : (f : Field → Column → Bool) (m : Model) (c k : ℕ) (o : Option (Field × Forest Field)) → byField f m c o ≡ Some k → among k (childNumbers m c) ≡ true
 field-among f m c k None e = absurd (let z : _≡_ {A = ℕ} 0 1 = cc in omega arith)
 field-among f m c k (Some (x, below)) e = first-among (f x) (c + 1) k (children m c) e
 

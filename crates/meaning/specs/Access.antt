@@ -29,12 +29,12 @@ abbrev pub Pick : Type 0
 Pick = ℕ → ℕ → Option ℕ
 
 -- the numbers of column c's children
-abbrev pub kids : Model → ℕ → List ℕ
-kids m c = numbers (c + 1) (children m c)
+abbrev pub childNumbers : Model → ℕ → List ℕ
+childNumbers m c = numbers (c + 1) (children m c)
 
 -- a pick names only a column's own children
 abbrev pub Own : Model → Pick → Type 0
-Own m pick = (c f k : ℕ) → pick c f ≡ Some k → among k (kids m c) ≡ true
+Own m pick = (c f k : ℕ) → pick c f ≡ Some k → among k (childNumbers m c) ≡ true
 
 -- what was picked, or the refusal
 abbrev pub orRefused : Option ℕ → StepFault → Result ℕ StepFault
@@ -47,5 +47,5 @@ module _ (m : Model) (pick : Pick) where
   abbrev pub partner : Shape → ℕ → ℕ → ℕ → Result ℕ StepFault
   partner (prim p) up c n = Err (fault 9 c n)
   partner struct up c n = cond (struct? m c) (orRefused (pick c n) (fault 11 c n)) (Err (fault 10 c n))
-  partner list up c n = cond (list? m c) (Ok (getD (kids m c) 0 0)) (Err (fault 12 c up))
-  partner map up c n = cond (map? m c) (Ok (getD (kids m c) (cond (eqb n (up + 1)) 0 1) 0)) (Err (fault 13 c up))
+  partner list up c n = cond (list? m c) (Ok (getD (childNumbers m c) 0 0)) (Err (fault 12 c up))
+  partner map up c n = cond (map? m c) (Ok (getD (childNumbers m c) (cond (eqb n (up + 1)) 0 1) 0)) (Err (fault 13 c up))

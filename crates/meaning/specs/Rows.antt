@@ -7,7 +7,7 @@ use Rattle.meaning.specs.Forest.{Forest, none, tree, size, beside}
 use Rattle.meaning.specs.Model.{Model, Field, Shape, prim, struct, list, map, at}
 use Rattle.meaning.specs.Lists.{upto, anyOf, orZero}
 use Rattle.meaning.specs.Slots.{null, spanSlots}
-use Rattle.meaning.specs.Access.{Pick, kids}
+use Rattle.meaning.specs.Access.{Pick, childNumbers}
 use Rattle.meaning.specs.Literals.{structLiteral, Values, literalAt, sameBy}
 
 -- the last of the slots js whose key is that of slot i, or i
@@ -39,12 +39,12 @@ module _ (m : Model) (pick : Pick) where
       let p : ℕ = orZero (pick c n) in
       tree (literalAt (f .shape) (at m p) i) (cond (null (at m p) i) none (parts below (f .shape) (n + 1) p i)) (parts rest struct (n + 1 + size below) c i)
   parts (tree f below rest) list n c i =
-      let p : ℕ = getD (kids m c) 0 0 in
+      let p : ℕ = getD (childNumbers m c) 0 0 in
       joined (λ j. tree (literalAt (f .shape) (at m p) j) (cond (null (at m p) j) none (parts below (f .shape) (n + 1) p j)) none) (spanSlots (at m c) i)
   parts (tree f below none) map n c i = none
   parts (tree f below (tree g under rest)) map n c i =
-      let p : ℕ = getD (kids m c) 0 0 in
-      let q : ℕ = getD (kids m c) 1 0 in
+      let p : ℕ = getD (childNumbers m c) 0 0 in
+      let q : ℕ = getD (childNumbers m c) 1 0 in
       joined (λ (kv : ℕ × ℕ). tree (literalAt (f .shape) (at m p) (kv .0)) none (tree (literalAt (g .shape) (at m q) (kv .1)) (cond (null (at m q) (kv .1)) none (parts under (g .shape) (n + 1 + size below + 1) q (kv .1))) none)) (kept (sameBy (f .shape) (at m p)) (spanSlots (at m c) i))
 
   -- row i: a struct of the schema's fields
