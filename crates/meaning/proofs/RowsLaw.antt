@@ -23,7 +23,7 @@ use Rattle.meaning.specs.Converts.{converts, checkFields}
 use Rattle.meaning.specs.Reaches.{Reach, reached}
 use Rattle.meaning.specs.Nans.{nans, nansIn}
 use Rattle.meaning.specs.Table.{Table, countOf, Answer, answer}
-use Rattle.meaning.specs.CounterLaw.{Call, computes, floatAdditions, sumOf, hiddenNansOf, rowNans, Rows-law}
+use Rattle.meaning.specs.CounterLaw.{Call, computes, floatAdditions, sumOf, hiddenNansOf, nansInRows, rowNansOf, Rows-law}
 use Rattle.meaning.proofs.KeepsPremises.{keeps-premises}
 use Rattle.meaning.proofs.SlotSums.{total-upto, sum-ext}
 use Rattle.meaning.proofs.AcceptedSteps.{chain-ok}
@@ -61,14 +61,14 @@ module _ (c : Call) (id : ℤ) where
         | inr f ↦ rw f (omega (arith, additions-few rs))
       ]
 
-  rows-joined : (xs : List ℕ) → rowNans id c (joined (row m (c .pick)) xs) ≡ sum (λ i. nansIn id (m .fields) struct (parts m (c .pick) (m .fields) struct 1 0 i)) xs
+  rows-joined : (xs : List ℕ) → nansInRows id (m .fields) (joined (row m (c .pick)) xs) ≡ sum (λ i. nansIn id (m .fields) struct (parts m (c .pick) (m .fields) struct 1 0 i)) xs
   rows-joined [] = refl
   rows-joined (x ∷ xs) = ap (λ k. nansIn id (m .fields) struct (parts m (c .pick) (m .fields) struct 1 0 x) + k) (rows-joined xs)
 
   row-shown : (i n k : ℕ) → i < n → cond (ltb i n && not (ltb i n && false)) k 0 ≡ k
   row-shown i n k h = rw (lt-ltb i n h) refl
 
-  rows-shown : inParts m (c .pick) id (m .fields) struct 1 0 (λ i. ltb i (m .rows)) ≡ rowNans id c (rows m (c .pick))
+  rows-shown : inParts m (c .pick) id (m .fields) struct 1 0 (λ i. ltb i (m .rows)) ≡ rowNansOf c id
   rows-shown = sum-ext (m .rows) _ _ (λ i h. row-shown i (m .rows) _ h) ∙ (sym (total-upto _ (m .rows)) ∙ sym (rows-joined (upto (m .rows))))
 
   -- where conversion accepts, the walk finds no refusal, few reaches, and shows the NaNs of the rows
@@ -94,7 +94,7 @@ module _ (c : Call) (id : ℤ) where
     accepted : computes c [] .0 ≡ Ok tt
     accepted = ap (λ (o : Answer × Table). o .0) computed
 
-    conserved : orZero (countOf (computes c [] .1) id) ≡ rowNans id c (rows m (c .pick)) + hiddenNansOf c id ours
+    conserved : orZero (countOf (computes c [] .1) id) ≡ rowNansOf c id + hiddenNansOf c id
     conserved =
         ap (λ (o : Answer × Table). orZero (countOf (o .1) id)) computed
         ∙ (count-folded (floatAdditions m ours) id (omega (arith, small, additions-sum ours))

@@ -12,9 +12,8 @@ use Rattle.meaning.specs.Samples.{sampleField, sampleColumn}
 use Rattle.meaning.specs.Access.{Pick, Own}
 use Rattle.meaning.specs.Rows.{rows}
 use Rattle.meaning.specs.Converts.{converts}
-use Rattle.meaning.specs.Reaches.{reached}
 use Rattle.meaning.specs.Table.{countOf}
-use Rattle.meaning.specs.CounterLaw.{Call, computes, rowNans, hiddenNansOf}
+use Rattle.meaning.specs.CounterLaw.{Call, computes, rowNansOf, hiddenNansOf}
 use Rattle.meaning.specs.Keeps.{Keeps}
 use Rattle.meaning.specs.Literals.{listed}
 use Rattle.meaning.specs.Converter.{conversion}
@@ -50,10 +49,10 @@ call = record { model = some; keeps = some-keeps; pick = pick; own = some-own }
 some-accepted : converts some pick 2048 ≡ Ok 13
 some-accepted = refl
 
-some-keys : (countOf (computes call [] .1) (pos 2) ≡ Some 2) × (rowNans (pos 2) call (rows some pick) ≡ 1) × (hiddenNansOf call (pos 2) (reached some pick .0) ≡ 1)
+some-keys : (countOf (computes call [] .1) (pos 2) ≡ Some 2) × (rowNansOf call (pos 2) ≡ 1) × (hiddenNansOf call (pos 2) ≡ 1)
 some-keys = (refl, refl, refl)
 
-some-values : (countOf (computes call [] .1) (pos 3) ≡ Some 2) × (rowNans (pos 3) call (rows some pick) ≡ 1) × (hiddenNansOf call (pos 3) (reached some pick .0) ≡ 1)
+some-values : (countOf (computes call [] .1) (pos 3) ≡ Some 2) × (rowNansOf call (pos 3) ≡ 1) × (hiddenNansOf call (pos 3) ≡ 1)
 some-values = (refl, refl, refl)
 
 -- the walk gives its rows

@@ -86,8 +86,8 @@ fits cs few = omega (arith, length-distinct (allAdditions cs))
 
 pub sums-law : Sums-law
 sums-law = record {
-  sum = λ cs few id. ap (λ (t : Table). countOf t id) (after-all cs [] (fits cs few)) ∙ sum-folded (allAdditions cs) id;
-  table = λ cs ds few r.
+  counts = λ cs few id. ap (λ (t : Table). countOf t id) (after-all cs [] (fits cs few)) ∙ sum-folded (allAdditions cs) id;
+  order = λ cs ds few r.
       let e : folded [] (allAdditions cs) ≡ folded [] (allAdditions ds) = folded-reordered cs ds r in
       after-all cs [] (fits cs few) ∙ (e ∙ sym (after-all ds [] (rw e at (fits cs few))));
   alone = λ cs few. answers-all cs [] (fits cs few);

@@ -60,7 +60,7 @@ abbrev pub KeyFirst : Forest Field → Type 0
 KeyFirst none = Unit {0}
 KeyFirst (tree f below rest) = Plain (f .shape)
 
--- what a type asks of the fields that it holds
+-- what a type asks of the fields that it holds: a primitive type none, a list its element, a map its key and its value
 abbrev pub Holds : Shape → Forest Field → Type 0
 Holds (prim p) below = Sized p × (below ≡ none)
 Holds struct below = Unit {0}
@@ -82,7 +82,7 @@ abbrev pub Rising : ℕ → ℕ → List ℕ → Type 0
 Rising top last [] = Unit {0}
 Rising top last (o ∷ os) = (last ≤ o) × (o < top) × Rising top o os
 
--- so many slots are cut by one offset more, each a signed number of so many bytes that is not negative
+-- a column of n slots has n + 1 offsets (Arrow), each a signed number of so many bytes that is not negative
 abbrev pub Cuts : ℕ → Column → Type 0
 Cuts width x = (length (x .offsets) ≡ x .len + 1) × Rising (2 ^ (8 * width - 1)) 0 (x .offsets)
 
@@ -94,7 +94,7 @@ Within os end = All (λ o. o ≤ end) os
 abbrev pub Stored : ℕ → Column → Forest Column → Type 0
 Stored n x below = (length (x .body) ≡ n) × Bytes (x .body) × (x .offsets ≡ []) × (below ≡ none)
 
--- what a column's code asks of its body and of the columns below it
+-- what a column's code asks of its body and of its children (the layouts of the Arrow columnar format)
 abbrev pub Bodied : Code → Column → Forest Column → Type 0
 Bodied bits x below = Stored ((x .len + 7) / 8) x below
 Bodied (words w) x below = Stored (x .len * widthOf w) x below

@@ -42,13 +42,17 @@ sumPairs f g none = 0
 sumPairs f g (tree x ps none) = f x ps
 sumPairs f g (tree x ps (tree y qs rest)) = f x ps + (g y qs + sumPairs f g rest)
 
+-- 1 for a literal that is a NaN and stands for a field of this id, else 0
+abbrev pub nanOf : ℤ → Field → Literal → ℕ
+nanOf id f x = cond (sameInteger id (f .id) && nanLiteral x) 1 0
+
 -- the NaNs that stand for fields of this id in the parts of a value whose type has this shape and holds these fields
 abbrev pub nansIn : ℤ → Forest Field → Shape → Values → ℕ
 nansIn id none s vs = 0
 nansIn id (tree f below rest) (prim p) vs = 0
 nansIn id (tree f below rest) struct none = 0
-nansIn id (tree f below rest) struct (tree x ps more) = cond (sameInteger id (f .id) && nanLiteral x) 1 0 + (nansIn id below (f .shape) ps + nansIn id rest struct more)
-nansIn id (tree f below rest) list vs = sumElements (λ x ps. cond (sameInteger id (f .id) && nanLiteral x) 1 0 + nansIn id below (f .shape) ps) vs
+nansIn id (tree f below rest) struct (tree x ps more) = nanOf id f x + (nansIn id below (f .shape) ps + nansIn id rest struct more)
+nansIn id (tree f below rest) list vs = sumElements (λ x ps. nanOf id f x + nansIn id below (f .shape) ps) vs
 nansIn id (tree f below none) map vs = 0
 nansIn id (tree f below (tree g under′ rest)) map vs =
-    sumPairs (λ x ps. cond (sameInteger id (f .id) && nanLiteral x) 1 0 + nansIn id below (f .shape) ps) (λ x ps. cond (sameInteger id (g .id) && nanLiteral x) 1 0 + nansIn id under′ (g .shape) ps) vs
+    sumPairs (λ x ps. nanOf id f x + nansIn id below (f .shape) ps) (λ x ps. nanOf id g x + nansIn id under′ (g .shape) ps) vs
