@@ -85,34 +85,34 @@ ok-some (Some k) e p h = cc
 
 -- the steps of a field that is taken, at its partner
 module _ (m : Model) (pick : Pick) (cells : ℕ) where
-  abbrev pub target : Shape → ℕ → ℕ → ℕ → ℕ
-  target (prim p) up c n = 0
-  target struct up c n = orZero (pick c n)
-  target list up c n = getD (childNumbers m c) 0 0
-  target map up c n = getD (childNumbers m c) (cond (eqb n (up + 1)) 0 1) 0
+  abbrev pub partnerColumn : Shape → ℕ → ℕ → ℕ → ℕ
+  partnerColumn (prim p) up c n = 0
+  partnerColumn struct up c n = orZero (pick c n)
+  partnerColumn list up c n = getD (childNumbers m c) 0 0
+  partnerColumn map up c n = getD (childNumbers m c) (cond (eqb n (up + 1)) 0 1) 0
 
-  abbrev pub Kind : Shape → ℕ → ℕ → Type 0
-  Kind (prim p) c n = ⊥
-  Kind struct c n = (struct? m c ≡ true) × (pick c n ≡ Some (orZero (pick c n)))
-  Kind list c n = list? m c ≡ true
-  Kind map c n = map? m c ≡ true
+  abbrev pub IsPartner : Shape → ℕ → ℕ → Type 0
+  IsPartner (prim p) c n = ⊥
+  IsPartner struct c n = (struct? m c ≡ true) × (pick c n ≡ Some (orZero (pick c n)))
+  IsPartner list c n = list? m c ≡ true
+  IsPartner map c n = map? m c ≡ true
 
-  pub partner-kind : (s : Shape) (up c n p : ℕ) → partner m pick s up c n ≡ Ok p → Kind s c n × (p ≡ target s up c n)
-  partner-kind (prim k) up c n p e = absurd (let z : _≡_ {A = ℕ} 0 1 = cc in omega arith)
-  partner-kind struct up c n p e =
+  pub partner-of : (s : Shape) (up c n p : ℕ) → partner m pick s up c n ≡ Ok p → IsPartner s c n × (p ≡ partnerColumn s up c n)
+  partner-of (prim k) up c n p e = absurd (let z : _≡_ {A = ℕ} 0 1 = cc in omega arith)
+  partner-of struct up c n p e =
       let h : (struct? m c ≡ true) × (orRefused (pick c n) (fault 11 c n) ≡ Ok p) = ok-test (struct? m c) (orRefused (pick c n) (fault 11 c n)) (fault 10 c n) p e in
       let k : pick c n ≡ Some p = ok-some (pick c n) (fault 11 c n) p (h .1) in
       ((h .0, k ∙ ap (λ (o : Option ℕ). Some (orZero o)) (sym k)), sym (ap orZero k))
-  partner-kind list up c n p e =
+  partner-of list up c n p e =
       let h : (list? m c ≡ true) × (Ok (getD (childNumbers m c) 0 0) ≡ Ok p) = ok-test (list? m c) (Ok (getD (childNumbers m c) 0 0)) (fault 12 c up) p e in
       (h .0, sym (ok-is (getD (childNumbers m c) 0 0) p (h .1)))
-  partner-kind map up c n p e =
-      let h : (map? m c ≡ true) × (Ok (target map up c n) ≡ Ok p) = ok-test (map? m c) (Ok (target map up c n)) (fault 13 c up) p e in
-      (h .0, sym (ok-is (target map up c n) p (h .1)))
+  partner-of map up c n p e =
+      let h : (map? m c ≡ true) × (Ok (partnerColumn map up c n) ≡ Ok p) = ok-test (map? m c) (Ok (partnerColumn map up c n)) (fault 13 c up) p e in
+      (h .0, sym (ok-is (partnerColumn map up c n) p (h .1)))
 
-  pub chain-ok : (r : Result ℕ StepFault) (k : ℕ → Result ℕ StepFault) (t : ℕ) → andThen r k ≡ Ok t → (x : ℕ) × (r ≡ Ok x) × (k x ≡ Ok t)
-  chain-ok (Ok x) k t e = (x, refl, e)
-  chain-ok (Err f) k t e = (0, cc, cc)
+  pub andThen-ok : (r : Result ℕ StepFault) (k : ℕ → Result ℕ StepFault) (t : ℕ) → andThen r k ≡ Ok t → (x : ℕ) × (r ≡ Ok x) × (k x ≡ Ok t)
+  andThen-ok (Ok x) k t e = (x, refl, e)
+  andThen-ok (Err f) k t e = (0, cc, cc)
 
   pub record Step (f : Field) (below rest : Forest Field) (s : Shape) (up n c taken t p : ℕ) : Type 0 where
     pub met : partner m pick s up c n ≡ Ok p
@@ -124,13 +124,13 @@ module _ (m : Model) (pick : Pick) (cells : ℕ) where
     pub after : checkFields m pick cells rest s up (n + 1 + size below) c t₃ ≡ Ok t
 
   pub step : (f : Field) (below rest : Forest Field) (s : Shape) (up n c taken t : ℕ) → checkFields m pick cells (tree f below rest) s up n c taken ≡ Ok t
-      → Kind s c n × Step f below rest s up n c taken t (target s up c n)
+      → IsPartner s c n × Step f below rest s up n c taken t (partnerColumn s up c n)
   step f below rest s up n c taken t e =
-      let a = chain-ok (partner m pick s up c n) _ t e in
-      let b = chain-ok (checkFields m pick cells below (f .shape) n (n + 1) (a .0) taken) _ t (a .2) in
-      let d = chain-ok (ownHook m cells (f .shape) below n (a .0) (b .0)) _ t (b .2) in
-      let g = chain-ok (fieldHook m s f n c (a .0) (d .0)) _ t (d .2) in
-      let k = partner-kind s up c n (a .0) (a .1) in
+      let a = andThen-ok (partner m pick s up c n) _ t e in
+      let b = andThen-ok (checkFields m pick cells below (f .shape) n (n + 1) (a .0) taken) _ t (a .2) in
+      let d = andThen-ok (ownHook m cells (f .shape) below n (a .0) (b .0)) _ t (b .2) in
+      let g = andThen-ok (fieldHook m s f n c (a .0) (d .0)) _ t (d .2) in
+      let k = partner-of s up c n (a .0) (a .1) in
       (k .0, subst (λ (p : ℕ). Step f below rest s up n c taken t p) (k .1) (record { met = a .1; t₁ = b .0; inner = b .1; t₂ = d .0; mine = d .1; t₃ = g .0; after = g .2 }))
 
   -- a NaN of the column is a NaN of the value
@@ -144,6 +144,6 @@ module _ (m : Model) (pick : Pick) (cells : ℕ) where
   kind-nan map none n p taken t₁ t₂ h c o i = absurd h
   kind-nan map (tree f below rest) n p taken t₁ t₂ h c o i = map-nan (at m p .code) (at m p .body) i (step f below rest map n (n + 1) p taken t₁ c .0)
 
-  pub item-nan : (s : Shape) (below : Forest Field) (n p taken t₁ t₂ : ℕ) → Exactly s below → checkFields m pick cells below s n (n + 1) p taken ≡ Ok t₁ → ownHook m cells s below n p t₁ ≡ Ok t₂
+  pub literal-nan : (s : Shape) (below : Forest Field) (n p taken t₁ t₂ : ℕ) → Exactly s below → checkFields m pick cells below s n (n + 1) p taken ≡ Ok t₁ → ownHook m cells s below n p t₁ ≡ Ok t₂
       → (i : ℕ) → nan (at m p) i ≡ nanLiteral (literalAt s (at m p) i)
-  item-nan s below n p taken t₁ t₂ h c o i = null-nan (null (at m p) i) (nanBy (at m p .code) (at m p .body) i) s (at m p) i (kind-nan s below n p taken t₁ t₂ h c o i)
+  literal-nan s below n p taken t₁ t₂ h c o i = null-nan (null (at m p) i) (nanBy (at m p .code) (at m p .body) i) s (at m p) i (kind-nan s below n p taken t₁ t₂ h c o i)

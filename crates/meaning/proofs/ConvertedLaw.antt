@@ -18,10 +18,10 @@ use Rattle.meaning.proofs.KeepsPremises.{keeps-premises}
 use Rattle.meaning.proofs.Premises.{Premises, Formed}
 use Rattle.meaning.specs.Walk.{Step, ret, bind, role, close, finish, walk, bindResult, visitStruct}
 use Rattle.meaning.specs.Converter.{converter, conversion, Converted, Converted-law}
-use Rattle.meaning.proofs.AcceptedSteps.{target, Kind, partner-kind}
+use Rattle.meaning.proofs.AcceptedSteps.{IsPartner, partnerColumn, partner-of}
 use Rattle.meaning.proofs.FieldPlaces.{Placed, placed-all, placed-here, placed-type, placed-below, placed-rest}
-use Rattle.meaning.proofs.SlotLists.{all-upto, each-ext}
-use Rattle.meaning.proofs.StepAgreement.{Agrees, agrees-then, agrees-push, chain-chain}
+use Rattle.meaning.proofs.SlotLists.{all-upto, each-equal}
+use Rattle.meaning.proofs.StepAgreement.{Agrees, agrees-then, agrees-push, andThen-andThen}
 use Rattle.meaning.proofs.ConverterSteps.{valueOf, columnOf, results, close-agrees, target-found, finish-agrees}
 
 module _ (m : Model) (pick : Pick) (cells : ℕ) (keeps : Premises m) (mine : Own m pick) where
@@ -48,9 +48,9 @@ module _ (m : Model) (pick : Pick) (cells : ℕ) (keeps : Premises m) (mine : Ow
         andThen (checkFields m pick cells below (f .shape) n (n + 1) p taken) (λ t. andThen (ownHook m cells (f .shape) below n p t)
         (λ t. andThen (fieldHook m s f n c p t) (λ t. checkFields m pick cells rest s up next c t)))
 
-    module _ (pl : Placed m (tree f below rest) n) (fo : Formed (tree f below rest)) (kind : Kind m pick cells s c n) (wb : (p : ℕ) → Walks below (f .shape) n (n + 1) p) (wr : Walks rest s up next c) where
+    module _ (pl : Placed m (tree f below rest) n) (fo : Formed (tree f below rest)) (kind : IsPartner m pick cells s c n) (wb : (p : ℕ) → Walks below (f .shape) n (n + 1) p) (wr : Walks rest s up next c) where
       abbrev here : ℕ
-      here = target m pick cells s up c n
+      here = partnerColumn m pick cells s up c n
 
       abbrev mine′ : List Value
       mine′ = columnOf m pick (f .shape) below n here
@@ -75,7 +75,7 @@ module _ (m : Model) (pick : Pick) (cells : ℕ) (keeps : Premises m) (mine : Ow
       tree-agrees : (taken : ℕ) → Agrees (walked here taken) (checked here taken) (mine′ ∷ results m pick cells rest s up next c)
       tree-agrees taken =
           subst (λ (r : Result ℕ StepFault). Agrees (walked here taken) r (mine′ ∷ results m pick cells rest s up next c))
-          (chain-chain m pick cells (checkFields m pick cells below (f .shape) n (n + 1) here taken) (ownHook m cells (f .shape) below n here)
+          (andThen-andThen m pick cells (checkFields m pick cells below (f .shape) n (n + 1) here taken) (ownHook m cells (f .shape) below n here)
           (λ t. andThen (fieldHook m s f n c here t) (λ t. checkFields m pick cells rest s up next c t)))
           (agrees-then m pick cells (bind (conv below (f .shape) n (n + 1) here) (close (converter m cells) (f .shape) n here) taken)
           (andThen (checkFields m pick cells below (f .shape) n (n + 1) here taken) (ownHook m cells (f .shape) below n here)) mine′
@@ -93,7 +93,7 @@ module _ (m : Model) (pick : Pick) (cells : ℕ) (keeps : Premises m) (mine : Ow
           → Agrees (bindResult (λ p. walked f below rest s up n c p) (r, taken)) (andThen r (λ p. checked f below rest s up n c p taken)) (results m pick cells (tree f below rest) s up n c)
       go taken (Err e) h wb wr = refl
       go taken (Ok p) h wb wr =
-          let k = partner-kind m pick cells s up c n p h in
+          let k = partner-of m pick cells s up c n p h in
           subst (λ (q : ℕ). Agrees (walked f below rest s up n c q taken) (checked f below rest s up n c q taken) (results m pick cells (tree f below rest) s up n c))
           (sym (k .1)) (tree-agrees f below rest s up n c pl fo (k .0) wb wr taken)
 
@@ -115,7 +115,7 @@ module _ (m : Model) (pick : Pick) where
   row-value i = ap (λ (b : Bool). (cond b nullLiteral structLiteral, cond b none (parts m pick (m .fields) struct 1 0 i))) (and-false (ltb i (m .rows)))
 
   rows-column : columnOf m pick struct (m .fields) 0 0 ≡ listed (rows m pick)
-  rows-column = each-ext _ _ (upto (m .rows)) (all-upto _ (m .rows) (λ i h. row-value i)) ∙ sym (rows-listed (upto (m .rows)))
+  rows-column = each-equal _ _ (upto (m .rows)) (all-upto _ (m .rows) (λ i h. row-value i)) ∙ sym (rows-listed (upto (m .rows)))
 
 -- an answer that agrees is accepted and refused as the definition is
 ok-agrees : {X : Type 0} (x : Result X StepFault × ℕ) (r : Result ℕ StepFault) (v : X) → Agrees x r v → (t : ℕ) → r ≡ Ok t → x ≡ (Ok v, t)

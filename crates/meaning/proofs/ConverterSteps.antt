@@ -24,13 +24,13 @@ use Rattle.meaning.specs.Walk.{Step, mapKey, mapValue, role, fieldAt, typeAt, 
 use Rattle.meaning.specs.Converter.{slot, primOf, structOf, listOf, mapOf, requiredOf, holder, pastEnd, elements, entries, pairCells, uneven, taking, fieldStep, converter, nullInSpan, listRows, rowValues, fieldParts, keptPairs, nullRequired}
 use Rattle.meaning.proofs.SlotSums.{Cuts}
 use Rattle.meaning.proofs.Spans.{list-cuts, map-cuts}
-use Rattle.meaning.proofs.AcceptedSteps.{target, Kind, step}
+use Rattle.meaning.proofs.AcceptedSteps.{step, IsPartner, partnerColumn}
 use Rattle.meaning.proofs.FieldPlaces.{held-child, found-child, found-kid}
 use Rattle.std.specs.shelf.Lists.{All}
 use Rattle.std.proofs.shelf.Elements.{all-weaker}
-use Rattle.meaning.proofs.SlotLists.{all-upto, all-from, all-both, upto-at, some-ext, some-none, none-all, sum-ext, each-ext, joined-ext, length-slots, slot-at, pairs-in, pairs-same}
+use Rattle.meaning.proofs.SlotLists.{all-upto, all-from, all-both, upto-at, length-slots, slot-at, pairs-in, pairs-same, any-equal, any-none, none-any, sum-equal, each-equal, joined-equal}
 use Rattle.meaning.proofs.KeysBySlot.{alike-key}
-use Rattle.meaning.proofs.StepAgreement.{Agrees, agrees-unless, agrees-retest, agrees-test, agrees-pass, agrees-sought, agrees-as, agrees-taking}
+use Rattle.meaning.proofs.StepAgreement.{Agrees, agrees-retest, agrees-test, agrees-pass, agrees-sought, agrees-as, agrees-taking, agrees-refuseIf}
 
 -- a value is null exactly if its slot is
 literal-null : (p : Primitive) (x : Column) (i : ℕ) → isNullLiteral (primitiveLiteral p x i) ≡ false
@@ -87,7 +87,7 @@ rows-by maps x l e = refl
 -- spans that end within a result, and what they cut
 module _ (x : Column) (l : ℕ) (k : Cuts (x .len) l (λ i. span x i .0) (λ i. span x i .1)) where
   pub none-past : pastEnd x (x .len) l ≡ false
-  none-past = some-none (λ i. ltb l (span x i .1)) (upto (x .len)) (all-upto _ (x .len) (λ i h. le-ltb l (span x i .1) (k .inside i h)))
+  none-past = any-none (λ i. ltb l (span x i .1)) (upto (x .len)) (all-upto _ (x .len) (λ i h. le-ltb l (span x i .1) (k .inside i h)))
 
   pub all-cut : (P : ℕ → Type 0) (i : ℕ) → i < x .len → ((j : ℕ) → j < l → P j) → All P (spanSlots x i)
   all-cut P i h a = all-from P (span x i .0) (span x i .1 - span x i .0) (λ j t. a (span x i .0 + j) (omega (arith, k .inside i h, k .ordered i h)))
@@ -116,7 +116,7 @@ module _ (m : Model) (pick : Pick) where
         agrees-sought m (primOf (typeAt m n)) k n c _ taken _ _ (ap primOf e) seen
         (agrees-test (accepts k (at m c .code)) (fault 14 c n) _ taken _ _
         (agrees-as _ (takes cells n c (at m c .len) taken) _ _
-        (each-ext _ (valueOf (prim k) none n c) (upto (at m c .len)) (all-upto _ (at m c .len) (λ i h. ap (λ (v : Values). (literalAt (prim k) (at m c) i, v)) (sym (cond-same (null (at m c) i) none)))))
+        (each-equal _ (valueOf (prim k) none n c) (upto (at m c .len)) (all-upto _ (at m c .len) (λ i h. ap (λ (v : Values). (literalAt (prim k) (at m c) i, v)) (sym (cond-same (null (at m c) i) none)))))
         (agrees-taking m pick cells n c (at m c .len) taken _)))
 
 -- a key's value has no parts, and keys that are not null are compared as their slots are
@@ -137,7 +137,7 @@ module _ (m : Model) (pick : Pick) (cells : ℕ) where
   -- the results of the fields below a type
   abbrev pub results : Forest Field → Shape → ℕ → ℕ → ℕ → List (List Value)
   results none s up n c = []
-  results (tree f below rest) s up n c = columnOf m pick (f .shape) below n (target m pick cells s up c n) ∷ results rest s up (n + 1 + size below) c
+  results (tree f below rest) s up n c = columnOf m pick (f .shape) below n (partnerColumn m pick cells s up c n) ∷ results rest s up (n + 1 + size below) c
 
   results-count : (fs : Forest Field) (s : Shape) (up n c : ℕ) → length (results fs s up n c) ≡ count fs
   results-count none s up n c = refl
@@ -146,12 +146,12 @@ module _ (m : Model) (pick : Pick) (cells : ℕ) where
   -- the nulls of a result in the spans of slots that are not null are those of the column
   null-holds : (s : Shape) (below : Forest Field) (n c q : ℕ) → Cuts (at m c .len) (at m q .len) (λ i. span (at m c) i .0) (λ i. span (at m c) i .1)
       → nullInSpan (at m c) (at m c .len) (columnOf m pick s below n q) ≡ nullInSpans m c q
-  null-holds s below n c q k = some-ext _ _ (upto (at m c .len)) (all-upto _ (at m c .len) (λ i h.
-      ap (λ (b : Bool). not (null (at m c) i) && b) (some-ext _ _ (spanSlots (at m c) i) (all-cut (at m c) (at m q .len) k _ i h (λ j t. column-null m pick s below n q j t)))))
+  null-holds s below n c q k = any-equal _ _ (upto (at m c .len)) (all-upto _ (at m c .len) (λ i h.
+      ap (λ (b : Bool). not (null (at m c) i) && b) (any-equal _ _ (spanSlots (at m c) i) (all-cut (at m c) (at m q .len) k _ i h (λ j t. column-null m pick s below n q j t)))))
 
   module _ (keeps : Premises m) (mine : Own m pick) where
     -- a struct's fields have its length, and side by side they are its parts
-    mate-length : (c n : ℕ) → Kind m pick cells struct c n → at m (orZero (pick c n)) .len ≡ at m c .len
+    mate-length : (c n : ℕ) → IsPartner m pick cells struct c n → at m (orZero (pick c n)) .len ≡ at m c .len
     mate-length c n k = keeps .level c (orZero (pick c n)) (k .0) (mine c n (orZero (pick c n)) (k .1))
 
     struct-even : (fs : Forest Field) (up n c taken t : ℕ) → checkFields m pick cells fs struct up n c taken ≡ Ok t → uneven (at m c .len) (results fs struct up n c) ≡ false
@@ -177,7 +177,7 @@ module _ (m : Model) (pick : Pick) (cells : ℕ) where
         (agrees-pass (uneven (at m c .len) rs) (fault 17 c n) _ t _ _ (struct-even fs n (n + 1) c taken t k)
         (subst (λ (l : ℕ). Agrees (refuseIf (eqb l 0 && not (struct? m c)) (fault 14 c n) (taking m cells n c (at m c .len + l * at m c .len) vs) t) (ownHook m cells struct fs n c t) (columnOf m pick struct fs n c))
         (sym (results-count fs struct n (n + 1) c))
-        (agrees-unless (eqb (count fs) 0 && not (struct? m c)) (fault 14 c n) _ t _ _ (λ _.
+        (agrees-refuseIf (eqb (count fs) 0 && not (struct? m c)) (fault 14 c n) _ t _ _ (λ _.
         agrees-as _ (takes cells n c (at m c .len + count fs * at m c .len) t) vs (columnOf m pick struct fs n c) same (agrees-taking m pick cells n c (at m c .len + count fs * at m c .len) t vs)))))
       where
         rs : List (List Value)
@@ -187,7 +187,7 @@ module _ (m : Model) (pick : Pick) (cells : ℕ) where
         vs = rowValues (at m c) (at m c .len) structLiteral (fieldParts rs)
 
         same : vs ≡ columnOf m pick struct fs n c
-        same = each-ext _ (valueOf m pick struct fs n c) (upto (at m c .len)) (all-upto _ (at m c .len) (λ i h.
+        same = each-equal _ (valueOf m pick struct fs n c) (upto (at m c .len)) (all-upto _ (at m c .len) (λ i h.
             ap (λ (ps : Values). (literalAt struct (at m c) i, cond (null (at m c) i) none ps)) (struct-across fs n (n + 1) c taken t k i h)))
 
   -- a list, whose elements are what its spans cut out of the child's values
@@ -202,11 +202,11 @@ module _ (m : Model) (pick : Pick) (cells : ℕ) where
     list-spans = list-cuts (at m c .code) (at m c) (at m child .len) kind (keeps .cutting c)
 
     list-parts : (i : ℕ) → i < at m c .len → elements (at m c) inside i ≡ parts m pick (tree g under none) list (n + 1) c i
-    list-parts i h = joined-ext _ _ (spanSlots (at m c) i) (all-cut (at m c) (at m child .len) list-spans _ i h (λ j b.
+    list-parts i h = joined-equal _ _ (spanSlots (at m c) i) (all-cut (at m c) (at m child .len) list-spans _ i h (λ j b.
         ap (λ (v : Value). putBefore v none) (column-slot m pick (g .shape) under (n + 1) child j b)))
 
     list-rows : rowValues (at m c) (at m c .len) listLiteral (elements (at m c) inside) ≡ columnOf m pick list (tree g under none) n c
-    list-rows = each-ext _ (valueOf m pick list (tree g under none) n c) (upto (at m c .len)) (all-upto _ (at m c .len) (λ i h.
+    list-rows = each-equal _ (valueOf m pick list (tree g under none) n c) (upto (at m c .len)) (all-upto _ (at m c .len) (λ i h.
         ap (λ (ps : Values). (literalAt list (at m c) i, cond (null (at m c) i) none ps)) (list-parts i h)))
 
     -- the step behind the column's kind, for a result of this length and so many rows
@@ -274,10 +274,10 @@ module _ (m : Model) (pick : Pick) (cells : ℕ) where
       live-cut : (i : ℕ) → i < at m c .len → null (at m c) i ≡ false → All Live (spanSlots (at m c) i)
       live-cut i h e =
           let test : ℕ → Bool = λ i. not (null (at m c) i) && anyOf (λ j. null (at m keyed) j) (spanSlots (at m c) i) in
-          let a : test i ≡ false = upto-at (λ i. test i ≡ false) (at m c .len) (none-all test (upto (at m c .len)) whole) i h in
+          let a : test i ≡ false = upto-at (λ i. test i ≡ false) (at m c .len) (none-any test (upto (at m c .len)) whole) i h in
           let b : anyOf (λ j. null (at m keyed) j) (spanSlots (at m c) i) ≡ false = sym (ap (λ (u : Bool). not u && anyOf (λ j. null (at m keyed) j) (spanSlots (at m c) i)) e) ∙ a in
           all-both (λ j. j < at m keyed .len) (λ j. null (at m keyed) j ≡ false) (spanSlots (at m c) i)
-          (all-cut (at m c) (at m keyed .len) key-spans (λ j. j < at m keyed .len) i h (λ j q. q)) (none-all (λ j. null (at m keyed) j) (spanSlots (at m c) i) b)
+          (all-cut (at m c) (at m keyed .len) key-spans (λ j. j < at m keyed .len) i h (λ j q. q)) (none-any (λ j. null (at m keyed) j) (spanSlots (at m c) i) b)
 
       alike-slots : (i j : ℕ) → Live i → Live j → sameLiteral (slot keys i .0) (slot keys j .0) ≡ same i j
       alike-slots i j a b =
@@ -301,10 +301,10 @@ module _ (m : Model) (pick : Pick) (cells : ℕ) where
       map-parts : (i : ℕ) → i < at m c .len → null (at m c) i ≡ false → entries (at m c) keys vals i ≡ parts m pick fields map (n + 1) c i
       map-parts i h e =
           ap (joined pair) (pairs-slots i h e)
-          ∙ joined-ext pair shown (kept same (spanSlots (at m c) i)) (all-weaker (λ kv. Live (kv .0) × Live (kv .1)) (λ kv. pair kv ≡ shown kv) pair-shown (kept same (spanSlots (at m c) i)) (pairs-in Live same (spanSlots (at m c) i) (live-cut i h e)))
+          ∙ joined-equal pair shown (kept same (spanSlots (at m c) i)) (all-weaker (λ kv. Live (kv .0) × Live (kv .1)) (λ kv. pair kv ≡ shown kv) pair-shown (kept same (spanSlots (at m c) i)) (pairs-in Live same (spanSlots (at m c) i) (live-cut i h e)))
 
       map-rows : rowValues (at m c) (at m c .len) mapLiteral (entries (at m c) keys vals) ≡ columnOf m pick map fields n c
-      map-rows = each-ext _ (valueOf m pick map fields n c) (upto (at m c .len)) (all-upto _ (at m c .len) (λ i h.
+      map-rows = each-equal _ (valueOf m pick map fields n c) (upto (at m c .len)) (all-upto _ (at m c .len) (λ i h.
           ap (λ (ps : Values). (literalAt map (at m c) i, ps)) (cond-parts (null (at m c) i) _ _ (map-parts i h))))
 
       length-slot : (i : ℕ) (b : Bool) → (b ≡ false → keptPairs (at m c) keys i ≡ kept same (spanSlots (at m c) i)) → cond b 0 (length (keptPairs (at m c) keys i)) ≡ cond b 0 (length (kept same (spanSlots (at m c) i)))
@@ -312,7 +312,7 @@ module _ (m : Model) (pick : Pick) (cells : ℕ) where
       length-slot i false e = ap length (e refl)
 
       map-cells : pairCells (at m c) keys ≡ 2 * sum (λ i. cond (null (at m c) i) 0 (length (kept same (spanSlots (at m c) i)))) (upto (at m c .len))
-      map-cells = ap (λ k. 2 * k) (sum-ext _ _ (upto (at m c .len)) (all-upto _ (at m c .len) (λ i h. length-slot i (null (at m c) i) (pairs-slots i h))))
+      map-cells = ap (λ k. 2 * k) (sum-equal _ _ (upto (at m c .len)) (all-upto _ (at m c .len) (λ i h. length-slot i (null (at m c) i) (pairs-slots i h))))
 
       map-takes : Agrees (taking m cells n c (at m c .len + pairCells (at m c) keys) (rowValues (at m c) (at m c .len) mapLiteral (entries (at m c) keys vals)) t)
           (takes cells n c (at m c .len + 2 * sum (λ i. cond (null (at m c) i) 0 (length (kept same (spanSlots (at m c) i)))) (upto (at m c .len))) t) (columnOf m pick map fields n c)
@@ -335,15 +335,15 @@ module _ (m : Model) (pick : Pick) (cells : ℕ) where
         (ap (λ (b : Bool). g .required && b) (null-holds (g .shape) vb later c valued value-spans)) (λ _.
         map-takes whole))))))
 
-    key-target : target m pick cells map n c (n + 1) ≡ keyed
+    key-target : partnerColumn m pick cells map n c (n + 1) ≡ keyed
     key-target = ap (λ (b : Bool). getD (childNumbers m c) (cond b 0 1) 0) (eq-eqb (n + 1) (n + 1) refl)
 
-    value-target : target m pick cells map n c later ≡ valued
+    value-target : partnerColumn m pick cells map n c later ≡ valued
     value-target = ap (λ (b : Bool). getD (childNumbers m c) (cond b 0 1) 0) (ne-eqb later (n + 1) (λ h. omega arith))
 
     map-agrees : Agrees (close (converter m cells) map n c (results fields map n (n + 1) c) t) (ownHook m cells map fields n c t) (columnOf m pick map fields n c)
     map-agrees =
-        subst (λ (p : ℕ). Agrees (close (converter m cells) map n c (columnOf m pick (f .shape) kb (n + 1) p ∷ (columnOf m pick (g .shape) vb later (target m pick cells map n c later) ∷ [])) t) (ownHook m cells map fields n c t) (columnOf m pick map fields n c))
+        subst (λ (p : ℕ). Agrees (close (converter m cells) map n c (columnOf m pick (f .shape) kb (n + 1) p ∷ (columnOf m pick (g .shape) vb later (partnerColumn m pick cells map n c later) ∷ [])) t) (ownHook m cells map fields n c t) (columnOf m pick map fields n c))
         (sym key-target)
         (subst (λ (q : ℕ). Agrees (close (converter m cells) map n c (keys ∷ (columnOf m pick (g .shape) vb later q ∷ [])) t) (ownHook m cells map fields n c t) (columnOf m pick map fields n c))
         (sym value-target) map-body)
@@ -364,7 +364,7 @@ module _ (m : Model) (pick : Pick) (cells : ℕ) where
   close-agrees keeps mine map (tree f kb (tree g vb (tree h over rest))) n c taken t ty seen ex fo e = absurd ex
 
   -- `field`: the nulls of a required field's result are those of its column, at the slots of the struct that holds it
-  module _ (keeps : Premises m) (mine : Own m pick) (f : Field) (below : Forest Field) (c n : ℕ) (kind : Kind m pick cells struct c n) where
+  module _ (keeps : Premises m) (mine : Own m pick) (f : Field) (below : Forest Field) (c n : ℕ) (kind : IsPartner m pick cells struct c n) where
     abbrev mate : ℕ
     mate = orZero (pick c n)
 
@@ -387,7 +387,7 @@ module _ (m : Model) (pick : Pick) (cells : ℕ) where
     bare-same : nullRequired m cells mate mated ≡ anyOf (λ i. not (null (at m c) i) && null (at m mate) i) (upto (at m c .len))
     bare-same =
         ap₂ bareBy mate-holder (column-length m pick (f .shape) below n mate ∙ mate-len)
-        ∙ some-ext _ _ (upto (at m c .len)) (all-upto _ (at m c .len) bare-slot)
+        ∙ any-equal _ _ (upto (at m c .len)) (all-upto _ (at m c .len) bare-slot)
 
     pub field-agrees : (t : ℕ) → fieldAt m n ≡ Some (f, below) → Agrees (fieldStep m cells n mate mated t) (fieldHook m struct f n c mate t) mated
     field-agrees t e =
@@ -396,21 +396,21 @@ module _ (m : Model) (pick : Pick) (cells : ℕ) where
         (ap (λ (b : Bool). f .required && b) bare-same) (λ _. refl))
 
   -- a field's partner is a column
-  pub target-found : Own m pick → (s : Shape) (up n c : ℕ) → Kind m pick cells s c n → missing m (target m pick cells s up c n) ≡ false
+  pub target-found : Own m pick → (s : Shape) (up n c : ℕ) → IsPartner m pick cells s c n → missing m (partnerColumn m pick cells s up c n) ≡ false
   target-found mine (prim k) up n c kind = absurd kind
   target-found mine struct up n c kind = found-child m c (orZero (pick c n)) (mine c n (orZero (pick c n)) (kind .1))
   target-found mine list up n c kind = found-kid m c 0
   target-found mine map up n c kind = found-kid m c (cond (eqb n (up + 1)) 0 1)
 
   -- what follows a field's type: `field` for a struct's field, and nothing for an element, a key or a value
-  pub finish-agrees : Premises m → Own m pick → (s : Shape) (f : Field) (below : Forest Field) (up n c t : ℕ) → Kind m pick cells s c n → fieldAt m n ≡ Some (f, below)
-      → Agrees (finish (converter m cells) (role s up n) n (target m pick cells s up c n) (columnOf m pick (f .shape) below n (target m pick cells s up c n)) t)
-      (fieldHook m s f n c (target m pick cells s up c n) t) (columnOf m pick (f .shape) below n (target m pick cells s up c n))
+  pub finish-agrees : Premises m → Own m pick → (s : Shape) (f : Field) (below : Forest Field) (up n c t : ℕ) → IsPartner m pick cells s c n → fieldAt m n ≡ Some (f, below)
+      → Agrees (finish (converter m cells) (role s up n) n (partnerColumn m pick cells s up c n) (columnOf m pick (f .shape) below n (partnerColumn m pick cells s up c n)) t)
+      (fieldHook m s f n c (partnerColumn m pick cells s up c n) t) (columnOf m pick (f .shape) below n (partnerColumn m pick cells s up c n))
   finish-agrees keeps mine (prim k) f below up n c t kind e = absurd kind
   finish-agrees keeps mine struct f below up n c t kind e = field-agrees keeps mine f below c n kind t e
   finish-agrees keeps mine list f below up n c t kind e = refl
   finish-agrees keeps mine map f below up n c t kind e = go (eqb n (up + 1))
     where
-      go : (b : Bool) → finish (converter m cells) (cond b mapKey mapValue) n (target m pick cells map up c n) (columnOf m pick (f .shape) below n (target m pick cells map up c n)) t ≡ (Ok (columnOf m pick (f .shape) below n (target m pick cells map up c n)), t)
+      go : (b : Bool) → finish (converter m cells) (cond b mapKey mapValue) n (partnerColumn m pick cells map up c n) (columnOf m pick (f .shape) below n (partnerColumn m pick cells map up c n)) t ≡ (Ok (columnOf m pick (f .shape) below n (partnerColumn m pick cells map up c n)), t)
       go true = refl
       go false = refl

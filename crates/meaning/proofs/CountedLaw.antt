@@ -21,7 +21,7 @@ use Rattle.meaning.specs.Table.{hasRoom, Table, added, Answer, addReaches}
 use Rattle.meaning.specs.Walk.{Step, ret, bind, Role, structField, listElement, mapKey, mapValue, role, fieldAt, missing, close, finish, walk, bindResult, refuseIf}
 use Rattle.meaning.proofs.Premises.{Exactly, Formed}
 use Rattle.meaning.specs.Counter.{counter, Counted-law, countReach, countReachBy, computeWalk}
-use Rattle.meaning.proofs.AcceptedSteps.{partner-kind}
+use Rattle.meaning.proofs.AcceptedSteps.{partner-of}
 use Rattle.meaning.proofs.ConverterSteps.{target-found}
 use Rattle.meaning.proofs.KeepsPremises.{keeps-formed}
 use Rattle.meaning.proofs.FieldPlaces.{Placed, placed-all, placed-here, placed-below, placed-rest}
@@ -70,9 +70,6 @@ module _ (m : Model) where
 
   adds-then : (F G : Found) (t : Table) → adds (followedBy F G) t ≡ bindResult (λ _. adds G) (adds F t)
   adds-then F G t = adds-pair (F .0) (F .1) G t
-
-  adds-one : (pick : Pick) (f : Field) (n p : ℕ) (sh : ℕ → Bool) (t : Table) → adds (oneReach f n p sh) t ≡ countReach m (f .id) n p t
-  adds-one pick f n p sh t = refl
 
 -- a step whose answer says nothing
 carry-unit : (x : Outcome) → bindResult (λ _. ret tt) x ≡ x
@@ -150,7 +147,7 @@ carry-ext A B e (Err f, t) = refl
 module _ (m : Model) (pick : Pick) (mine : Own m pick) where
   -- a partner is a column
   partner-found : (s : Shape) (up c n p : ℕ) → partner m pick s up c n ≡ Ok p → missing m p ≡ false
-  partner-found s up c n p e = let k = partner-kind m pick 0 s up c n p e in ap (missing m) (k .1) ∙ target-found m pick 0 mine s up n c (k .0)
+  partner-found s up c n p e = let k = partner-of m pick 0 s up c n p e in ap (missing m) (k .1) ∙ target-found m pick 0 mine s up n c (k .0)
 
   -- what a field finds, one part after another
   field-then : (F G : Found) (f : Field) (n p : ℕ) (sh : ℕ → Bool) (t : Table)

@@ -1,4 +1,4 @@
--- Ids are in order: `sameInteger` is equality, and `below` goes one way, on and on.
+-- Signed numbers in order: `sameInteger` is equality, and `ltZ` is irreflexive, transitive and total.
 use mathlib.Core.Path.{_≡_, refl, ap}
 use mathlib.Core.Bool.{true, false}
 use native.Mathlib.Omega.{arith}
@@ -18,25 +18,25 @@ same-eq (pos a) (negsuc b) h = cc
 same-eq (negsuc a) (pos b) h = cc
 same-eq (negsuc a) (negsuc b) h = ap negsuc (eqb-true a b h)
 
-pub below-apart : (a b : ℤ) → ltZ a b ≡ true → sameInteger a b ≡ false
-below-apart (pos a) (pos b) h = grind (arith, tells)
-below-apart (pos a) (negsuc b) h = refl
-below-apart (negsuc a) (pos b) h = refl
-below-apart (negsuc a) (negsuc b) h = grind (arith, tells)
+pub less-apart : (a b : ℤ) → ltZ a b ≡ true → sameInteger a b ≡ false
+less-apart (pos a) (pos b) h = grind (arith, tells)
+less-apart (pos a) (negsuc b) h = refl
+less-apart (negsuc a) (pos b) h = refl
+less-apart (negsuc a) (negsuc b) h = grind (arith, tells)
 
-pub below-on : (a b c : ℤ) → ltZ a b ≡ true → ltZ b c ≡ true → ltZ a c ≡ true
-below-on (pos a) (pos b) (pos c) h k = grind (arith, tells)
-below-on (pos a) (pos b) (negsuc c) h k = k
-below-on (pos a) (negsuc b) (pos c) h k = cc
-below-on (pos a) (negsuc b) (negsuc c) h k = h
-below-on (negsuc a) (pos b) (pos c) h k = refl
-below-on (negsuc a) (pos b) (negsuc c) h k = cc
-below-on (negsuc a) (negsuc b) (pos c) h k = refl
-below-on (negsuc a) (negsuc b) (negsuc c) h k = grind (arith, tells)
+pub less-less : (a b c : ℤ) → ltZ a b ≡ true → ltZ b c ≡ true → ltZ a c ≡ true
+less-less (pos a) (pos b) (pos c) h k = grind (arith, tells)
+less-less (pos a) (pos b) (negsuc c) h k = k
+less-less (pos a) (negsuc b) (pos c) h k = cc
+less-less (pos a) (negsuc b) (negsuc c) h k = h
+less-less (negsuc a) (pos b) (pos c) h k = refl
+less-less (negsuc a) (pos b) (negsuc c) h k = cc
+less-less (negsuc a) (negsuc b) (pos c) h k = refl
+less-less (negsuc a) (negsuc b) (negsuc c) h k = grind (arith, tells)
 
 -- of two ids that differ, one is below the other
-pub below-else : (a b : ℤ) → sameInteger a b ≡ false → ltZ a b ≡ false → ltZ b a ≡ true
-below-else (pos a) (pos b) h k = grind (arith, tells)
-below-else (pos a) (negsuc b) h k = refl
-below-else (negsuc a) (pos b) h k = cc
-below-else (negsuc a) (negsuc b) h k = grind (arith, tells)
+pub less-else : (a b : ℤ) → sameInteger a b ≡ false → ltZ a b ≡ false → ltZ b a ≡ true
+less-else (pos a) (pos b) h k = grind (arith, tells)
+less-else (pos a) (negsuc b) h k = refl
+less-else (negsuc a) (pos b) h k = cc
+less-else (negsuc a) (negsuc b) h k = grind (arith, tells)

@@ -12,12 +12,12 @@ use Rattle.meaning.specs.File.{decode}
 use Rattle.meaning.specs.Encode.{encode}
 use Rattle.meaning.specs.Keeps.{Bytes, Keeps}
 use Rattle.std.proofs.shelf.Elements.{all-weaker}
-use Rattle.meaning.proofs.SlotLists.{none-all}
+use Rattle.meaning.proofs.SlotLists.{none-any}
 use Rattle.meaning.proofs.Accepts.{accepts-law}
 
 -- no number of a list is 256 or more
 bytes-from : (bs : List ℕ) → anyOf (leb 256) bs ≡ false → Bytes bs
-bytes-from bs e = all-weaker (λ b. leb 256 b ≡ false) (λ b. b < 256) (λ b h. leb-false 256 b h) bs (none-all (leb 256) bs e)
+bytes-from bs e = all-weaker (λ b. leb 256 b ≡ false) (λ b. b < 256) (λ b h. leb-false 256 b h) bs (none-any (leb 256) bs e)
 
 pub keeps-read : (m : Model) → anyOf (leb 256) (encode m) ≡ false → decode (encode m) ≡ Ok m → Keeps m
 keeps-read m e d = accepts-law .written (encode m) m (bytes-from (encode m) e) d .1

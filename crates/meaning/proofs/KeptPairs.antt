@@ -9,8 +9,8 @@ use native.Mathlib.Omega.{arith}
 use Rattle.std.proofs.shelf.Tests.{cases-bool}
 use Rattle.meaning.specs.Lists.{upto, from, anyOf, sum}
 use Rattle.meaning.specs.Rows.{lastSame, keptFrom, kept}
-use Rattle.meaning.proofs.KeyEquality.{Alike}
-use Rattle.meaning.proofs.SlotLists.{all-upto, each-each, each-ext, any-push}
+use Rattle.meaning.proofs.KeyEquality.{Equivalence}
+use Rattle.meaning.proofs.SlotLists.{all-upto, each-each, any-push, each-equal}
 
 total-unless : (f : ℕ × ℕ → ℕ) (b : Bool) (x : ℕ × ℕ) (xs : List (ℕ × ℕ)) → sum f (cond b xs (x ∷ xs)) ≡ cond (not b) (f x) 0 + sum f xs
 total-unless f true x xs = omega arith
@@ -40,7 +40,7 @@ abbrev lasts : (ℕ → ℕ → Bool) → (ℕ → ℕ) → (ℕ → Bool) → L
 lasts same g ok [] = 0
 lasts same g ok (i ∷ is) = cond (not (anyOf (same i) is) && ok i) (g i) 0 + lasts same g ok is
 
-module _ (same : ℕ → ℕ → Bool) (a : Alike same) (g : ℕ → ℕ) where
+module _ (same : ℕ → ℕ → Bool) (a : Equivalence same) (g : ℕ → ℕ) where
   -- slots that are the same are the same as the same slots
   any-moved : (i j : ℕ) → same i j ≡ true → (xs : List ℕ) → anyOf (same i) xs ≡ anyOf (same j) xs
   any-moved i j e [] = refl
@@ -110,7 +110,7 @@ line a (suc n) = a ∷ line (suc a) n
 
 from-line : (a n : ℕ) → from a n ≡ line a n
 from-line a zero = refl
-from-line a (suc n) = ap₂ _∷_ (add-zero a) (each-each (λ k. a + k) suc (upto n) ∙ (each-ext (λ k. a + suc k) (λ k. suc a + k) (upto n) (all-upto _ n (λ k h. omega arith)) ∙ from-line (suc a) n))
+from-line a (suc n) = ap₂ _∷_ (add-zero a) (each-each (λ k. a + k) suc (upto n) ∙ (each-equal (λ k. a + suc k) (λ k. suc a + k) (upto n) (all-upto _ n (λ k h. omega arith)) ∙ from-line (suc a) n))
 
 line-push : (a n b : ℕ) → a + n ≡ b → line a (suc n) ≡ line a n ++ (b ∷ [])
 line-push a zero b e = ap (λ (x : ℕ). x ∷ []) (omega arith)
@@ -131,7 +131,7 @@ module _ (same : ℕ → ℕ → Bool) (g : ℕ → ℕ) where
       ap₂ _+_ (rw and-true (ap (λ (xs : List ℕ). cond (not (anyOf (same a) xs)) (g a) 0) (sym (from-line (suc a) n) ∙ ap₂ from (omega arith) (omega arith))))
       (lasts-line (suc a) n b (omega arith))
 
-module _ (same : ℕ → ℕ → Bool) (alike : Alike same) (g h : ℕ → ℕ) where
+module _ (same : ℕ → ℕ → Bool) (alike : Equivalence same) (g h : ℕ → ℕ) where
   total-pairs : (kvs : List (ℕ × ℕ)) → sum (λ (kv : ℕ × ℕ). g (kv .0) + h (kv .1)) kvs ≡ sum (λ (kv : ℕ × ℕ). g (kv .0)) kvs + sum (λ (kv : ℕ × ℕ). h (kv .1)) kvs
   total-pairs [] = refl
   total-pairs (kv ∷ kvs) = omega (arith, total-pairs kvs)

@@ -6,23 +6,25 @@ use mathlib.Core.Logic.{_⊎_, ⊎-elim}
 use Prim.Native.Nat.{ℕ}
 use native.Mathlib.Omega.{arith}
 use lib.Dec.{eqb}
+use lib.IntN.{ℤ}
 use Rattle.std.proofs.shelf.Ways.{tells}
 use Rattle.std.proofs.shelf.Tests.{eq-eqb, eqb-true, and-parts, and-from, or-cases}
+use Rattle.meaning.proofs.IdOrder.{same-self, same-eq}
 use Rattle.meaning.specs.Model.{Column, Shape, prim, struct, list, map, Primitive, boolean, int, long, float, double, date, time, timestamp, timestamptz, timestampNs, timestamptzNs, string, uuid, fixed, binary}
 use Rattle.meaning.specs.Slots.{bit, stored, nan32, nan64}
-use Rattle.meaning.specs.Equal.{sameBytes, sameBoolean}
+use Rattle.meaning.specs.Equal.{sameInteger, sameBytes, sameBoolean}
 use Rattle.meaning.specs.Literals.{bytesAt, zero32, zero64, same32, same64, sameKey, sameBy}
 
-pub record Alike {X : Type 0} (same : X → X → Bool) : Type 0 where
+pub record Equivalence {X : Type 0} (same : X → X → Bool) : Type 0 where
   pub self : (a : X) → same a a ≡ true
   pub flip : (a b : X) → same a b ≡ true → same b a ≡ true
   pub join : (a b c : X) → same a b ≡ true → same b c ≡ true → same a c ≡ true
 
 -- a test on what is read at two places
-pub read : {X Y : Type 0} (same : X → X → Bool) (f : Y → X) → Alike same → Alike (λ i j. same (f i) (f j))
-read same f a = record { self = λ i. a .self (f i); flip = λ i j. a .flip (f i) (f j); join = λ i j k. a .join (f i) (f j) (f k) }
+pub by-value : {X Y : Type 0} (same : X → X → Bool) (f : Y → X) → Equivalence same → Equivalence (λ i j. same (f i) (f j))
+by-value same f a = record { self = λ i. a .self (f i); flip = λ i j. a .flip (f i) (f j); join = λ i j k. a .join (f i) (f j) (f k) }
 
-pub numbers : Alike eqb
+pub numbers : Equivalence eqb
 numbers = record { self = λ a. eq-eqb a a refl; flip = λ a b e. eq-eqb b a (sym (eqb-true a b e)); join = λ a b c e f. eq-eqb a c (eqb-true a b e ∙ eqb-true b c f) }
 
 -- lists of bytes, element by element
@@ -41,11 +43,18 @@ bytes-equal (x ∷ xs) (y ∷ ys) e =
 equal-bytes : (xs ys : List ℕ) → xs ≡ ys → sameBytes xs ys ≡ true
 equal-bytes xs ys e = subst (λ (zs : List ℕ). sameBytes xs zs ≡ true) e (bytes-self xs)
 
-pub bytes : Alike sameBytes
+pub bytes : Equivalence sameBytes
 bytes = record { self = bytes-self; flip = λ a b e. equal-bytes b a (sym (bytes-equal a b e)); join = λ a b c e f. equal-bytes a c (bytes-equal a b e ∙ bytes-equal b c f) }
 
-pub truths : Alike sameBoolean
-truths = record { self = self′; flip = flip′; join = join′ }
+pub integers : Equivalence sameInteger
+integers = record {
+  self = same-self;
+  flip = λ a b e. subst (λ (x : ℤ). sameInteger x a ≡ true) (same-eq a b e) (same-self a);
+  join = λ a b c e f. subst (λ (x : ℤ). sameInteger x c ≡ true) (sym (same-eq a b e)) f;
+}
+
+pub booleans : Equivalence sameBoolean
+booleans = record { self = self′; flip = flip′; join = join′ }
   where
     self′ : (a : Bool) → sameBoolean a a ≡ true
     self′ true = refl
@@ -73,7 +82,7 @@ module _ (N Z : ℕ → Bool) (apart : (a : ℕ) → Z a ≡ true → N a ≡ fa
   ways : (a b : ℕ) → joined N Z a b ≡ true → ((N a ≡ true) × (N b ≡ true)) ⊎ (((Z a ≡ true) × (Z b ≡ true)) ⊎ ((N a ≡ false) × (a ≡ b)))
   ways a b e = grind (arith, tells)
 
-  floats : Alike (joined N Z)
+  floats : Equivalence (joined N Z)
   floats = record { self = λ a. grind (arith, tells); flip = λ a b e. grind (arith, tells, apart); join = λ a b c e f. grind (arith, tells, apart) }
 
 -- a zero is no NaN
@@ -83,32 +92,32 @@ zero32-apart a e = ⊎-elim (λ h. ap nan32 (eqb-true a 0 h)) (λ h. ap nan32 (e
 zero64-apart : (a : ℕ) → zero64 a ≡ true → nan64 a ≡ false
 zero64-apart a e = ⊎-elim (λ h. ap nan64 (eqb-true a 0 h)) (λ h. ap nan64 (eqb-true a 9223372036854775808 h)) (or-cases (eqb a 0) (eqb a 9223372036854775808) e)
 
-pub singles : Alike same32
-singles = floats nan32 zero32 zero32-apart
+pub floats32 : Equivalence same32
+floats32 = floats nan32 zero32 zero32-apart
 
-pub doubles : Alike same64
-doubles = floats nan64 zero64 zero64-apart
+pub floats64 : Equivalence same64
+floats64 = floats nan64 zero64 zero64-apart
 
 -- the keys of one column, by slot
-pub key-alike : (p : Primitive) (x : Column) → Alike (sameKey p x)
-key-alike boolean x = read sameBoolean (λ i. bit (x .body) i) truths
-key-alike int x = read eqb (λ i. stored 4 (x .body) i) numbers
-key-alike long x = read eqb (λ i. stored 8 (x .body) i) numbers
-key-alike float x = read same32 (λ i. stored 4 (x .body) i) singles
-key-alike double x = read same64 (λ i. stored 8 (x .body) i) doubles
-key-alike date x = read eqb (λ i. stored 4 (x .body) i) numbers
-key-alike time x = read eqb (λ i. stored 8 (x .body) i) numbers
-key-alike timestamp x = read eqb (λ i. stored 8 (x .body) i) numbers
-key-alike timestamptz x = read eqb (λ i. stored 8 (x .body) i) numbers
-key-alike timestampNs x = read eqb (λ i. stored 8 (x .body) i) numbers
-key-alike timestamptzNs x = read eqb (λ i. stored 8 (x .body) i) numbers
-key-alike string x = read sameBytes (λ i. bytesAt x i) bytes
-key-alike uuid x = read sameBytes (λ i. bytesAt x i) bytes
-key-alike (fixed n) x = read sameBytes (λ i. bytesAt x i) bytes
-key-alike binary x = read sameBytes (λ i. bytesAt x i) bytes
+pub key-equivalence : (p : Primitive) (x : Column) → Equivalence (sameKey p x)
+key-equivalence boolean x = by-value sameBoolean (λ i. bit (x .body) i) booleans
+key-equivalence int x = by-value eqb (λ i. stored 4 (x .body) i) numbers
+key-equivalence long x = by-value eqb (λ i. stored 8 (x .body) i) numbers
+key-equivalence float x = by-value same32 (λ i. stored 4 (x .body) i) floats32
+key-equivalence double x = by-value same64 (λ i. stored 8 (x .body) i) floats64
+key-equivalence date x = by-value eqb (λ i. stored 4 (x .body) i) numbers
+key-equivalence time x = by-value eqb (λ i. stored 8 (x .body) i) numbers
+key-equivalence timestamp x = by-value eqb (λ i. stored 8 (x .body) i) numbers
+key-equivalence timestamptz x = by-value eqb (λ i. stored 8 (x .body) i) numbers
+key-equivalence timestampNs x = by-value eqb (λ i. stored 8 (x .body) i) numbers
+key-equivalence timestamptzNs x = by-value eqb (λ i. stored 8 (x .body) i) numbers
+key-equivalence string x = by-value sameBytes (λ i. bytesAt x i) bytes
+key-equivalence uuid x = by-value sameBytes (λ i. bytesAt x i) bytes
+key-equivalence (fixed n) x = by-value sameBytes (λ i. bytesAt x i) bytes
+key-equivalence binary x = by-value sameBytes (λ i. bytesAt x i) bytes
 
-pub same-alike : (s : Shape) (x : Column) → Alike (sameBy s x)
-same-alike (prim p) x = key-alike p x
-same-alike struct x = numbers
-same-alike list x = numbers
-same-alike map x = numbers
+pub same-equivalence : (s : Shape) (x : Column) → Equivalence (sameBy s x)
+same-equivalence (prim p) x = key-equivalence p x
+same-equivalence struct x = numbers
+same-equivalence list x = numbers
+same-equivalence map x = numbers

@@ -5,7 +5,7 @@ use mathlib.Core.Bool.{Bool, true, false, cond, _||_}
 use mathlib.Core.Logic.{_⊎_, ⊎-elim}
 use Prim.Native.Nat.{ℕ}
 use native.Mathlib.Omega.{arith}
-use lib.IntN.{ℤ, pos, negsuc}
+use lib.IntN.{ℤ}
 use Rattle.std.proofs.shelf.Tests.{cases-bool, or-cases, or-left, or-right, both-ways}
 use Rattle.meaning.specs.Model.{Column}
 use Rattle.meaning.specs.Slots.{spanSlots}
@@ -15,7 +15,7 @@ use Rattle.meaning.specs.Literals.{Literal, nullLiteral, booleanLiteral, intLi
 use Rattle.meaning.specs.Rows.{lastSame, keptFrom, kept}
 use Rattle.meaning.specs.Converter.{slot, keptPairs}
 use Rattle.meaning.proofs.SlotLists.{any-push}
-use Rattle.meaning.proofs.KeyEquality.{Alike, numbers, bytes, truths, singles, doubles}
+use Rattle.meaning.proofs.KeyEquality.{integers, bytes, booleans, floats32, floats64}
 use Rattle.std.specs.shelf.Lists.{All}
 
 -- a map's pairs, put in one after another: a key that is there takes the new value at its place, another goes to the end;
@@ -30,11 +30,11 @@ insertedAll same kvs [] = kvs
 insertedAll same kvs (j ∷ js) = insertedAll same (inserted same kvs j) js
 
 -- a test that goes both ways and on
-pub record Linked {X : Type 0} (same : X → X → Bool) : Type 0 where
+pub record PartialEquivalence {X : Type 0} (same : X → X → Bool) : Type 0 where
   pub flip : (a b : X) → same a b ≡ true → same b a ≡ true
   pub join : (a b c : X) → same a b ≡ true → same b c ≡ true → same a c ≡ true
 
-module _ (same : ℕ → ℕ → Bool) (l : Linked same) where
+module _ (same : ℕ → ℕ → Bool) (l : PartialEquivalence same) where
   same-swap : (a b : ℕ) → same a b ≡ same b a
   same-swap a b = ⊎-elim (λ t. t ∙ sym (l .flip a b t)) (λ f. ⊎-elim (λ t. absurd (both-ways (same a b) f (l .flip b a t))) (λ g. f ∙ sym g) (cases-bool (same b a))) (cases-bool (same a b))
 
@@ -156,143 +156,122 @@ module _ (same : ℕ → ℕ → Bool) (l : Linked same) where
   pub inserted-kept : (is : List ℕ) → insertedAll same [] is ≡ kept same is
   inserted-kept is = all-kept is [] [] tt (λ i. refl)
 
--- whole numbers, and values of every kind, are compared by such a test
-linked : {X : Type 0} (same : X → X → Bool) → Alike same → Linked same
-linked same a = record { flip = a .flip; join = a .join }
-
-whole-flip : (a b : ℤ) → sameInteger a b ≡ true → sameInteger b a ≡ true
-whole-flip (pos a) (pos b) e = numbers .flip a b e
-whole-flip (pos a) (negsuc b) e = e
-whole-flip (negsuc a) (pos b) e = e
-whole-flip (negsuc a) (negsuc b) e = numbers .flip a b e
-
-whole-join : (a b c : ℤ) → sameInteger a b ≡ true → sameInteger b c ≡ true → sameInteger a c ≡ true
-whole-join (pos a) (pos b) (pos c) e f = numbers .join a b c e f
-whole-join (pos a) (pos b) (negsuc c) e f = f
-whole-join (pos a) (negsuc b) c e f = absurd (both-ways false refl e)
-whole-join (negsuc a) (pos b) c e f = absurd (both-ways false refl e)
-whole-join (negsuc a) (negsuc b) (pos c) e f = f
-whole-join (negsuc a) (negsuc b) (negsuc c) e f = numbers .join a b c e f
-
-wholes : Linked sameInteger
-wholes = record { flip = whole-flip; join = whole-join }
-
 -- a value that is one key with a primitive value is of its kind
-truth-like : (a : Bool) (y : Literal) → sameLiteral (booleanLiteral a) y ≡ true → (b : Bool) × (y ≡ booleanLiteral b) × (sameBoolean a b ≡ true)
-truth-like a nullLiteral e = absurd (both-ways false refl e)
-truth-like a (booleanLiteral b) e = (b, refl, e)
-truth-like a (intLiteral b) e = absurd (both-ways false refl e)
-truth-like a (longLiteral b) e = absurd (both-ways false refl e)
-truth-like a (floatLiteral b) e = absurd (both-ways false refl e)
-truth-like a (doubleLiteral b) e = absurd (both-ways false refl e)
-truth-like a (bytesLiteral b) e = absurd (both-ways false refl e)
-truth-like a structLiteral e = absurd (both-ways false refl e)
-truth-like a listLiteral e = absurd (both-ways false refl e)
-truth-like a mapLiteral e = absurd (both-ways false refl e)
+boolean-like : (a : Bool) (y : Literal) → sameLiteral (booleanLiteral a) y ≡ true → (b : Bool) × (y ≡ booleanLiteral b) × (sameBoolean a b ≡ true)
+boolean-like a nullLiteral e = absurd (both-ways false refl e)
+boolean-like a (booleanLiteral b) e = (b, refl, e)
+boolean-like a (intLiteral b) e = absurd (both-ways false refl e)
+boolean-like a (longLiteral b) e = absurd (both-ways false refl e)
+boolean-like a (floatLiteral b) e = absurd (both-ways false refl e)
+boolean-like a (doubleLiteral b) e = absurd (both-ways false refl e)
+boolean-like a (bytesLiteral b) e = absurd (both-ways false refl e)
+boolean-like a structLiteral e = absurd (both-ways false refl e)
+boolean-like a listLiteral e = absurd (both-ways false refl e)
+boolean-like a mapLiteral e = absurd (both-ways false refl e)
 
-whole-like : (a : ℤ) (y : Literal) → sameLiteral (intLiteral a) y ≡ true → (b : ℤ) × (y ≡ intLiteral b) × (sameInteger a b ≡ true)
-whole-like a nullLiteral e = absurd (both-ways false refl e)
-whole-like a (booleanLiteral b) e = absurd (both-ways false refl e)
-whole-like a (intLiteral b) e = (b, refl, e)
-whole-like a (longLiteral b) e = absurd (both-ways false refl e)
-whole-like a (floatLiteral b) e = absurd (both-ways false refl e)
-whole-like a (doubleLiteral b) e = absurd (both-ways false refl e)
-whole-like a (bytesLiteral b) e = absurd (both-ways false refl e)
-whole-like a structLiteral e = absurd (both-ways false refl e)
-whole-like a listLiteral e = absurd (both-ways false refl e)
-whole-like a mapLiteral e = absurd (both-ways false refl e)
+int-like : (a : ℤ) (y : Literal) → sameLiteral (intLiteral a) y ≡ true → (b : ℤ) × (y ≡ intLiteral b) × (sameInteger a b ≡ true)
+int-like a nullLiteral e = absurd (both-ways false refl e)
+int-like a (booleanLiteral b) e = absurd (both-ways false refl e)
+int-like a (intLiteral b) e = (b, refl, e)
+int-like a (longLiteral b) e = absurd (both-ways false refl e)
+int-like a (floatLiteral b) e = absurd (both-ways false refl e)
+int-like a (doubleLiteral b) e = absurd (both-ways false refl e)
+int-like a (bytesLiteral b) e = absurd (both-ways false refl e)
+int-like a structLiteral e = absurd (both-ways false refl e)
+int-like a listLiteral e = absurd (both-ways false refl e)
+int-like a mapLiteral e = absurd (both-ways false refl e)
 
-longer-like : (a : ℤ) (y : Literal) → sameLiteral (longLiteral a) y ≡ true → (b : ℤ) × (y ≡ longLiteral b) × (sameInteger a b ≡ true)
-longer-like a nullLiteral e = absurd (both-ways false refl e)
-longer-like a (booleanLiteral b) e = absurd (both-ways false refl e)
-longer-like a (intLiteral b) e = absurd (both-ways false refl e)
-longer-like a (longLiteral b) e = (b, refl, e)
-longer-like a (floatLiteral b) e = absurd (both-ways false refl e)
-longer-like a (doubleLiteral b) e = absurd (both-ways false refl e)
-longer-like a (bytesLiteral b) e = absurd (both-ways false refl e)
-longer-like a structLiteral e = absurd (both-ways false refl e)
-longer-like a listLiteral e = absurd (both-ways false refl e)
-longer-like a mapLiteral e = absurd (both-ways false refl e)
+long-like : (a : ℤ) (y : Literal) → sameLiteral (longLiteral a) y ≡ true → (b : ℤ) × (y ≡ longLiteral b) × (sameInteger a b ≡ true)
+long-like a nullLiteral e = absurd (both-ways false refl e)
+long-like a (booleanLiteral b) e = absurd (both-ways false refl e)
+long-like a (intLiteral b) e = absurd (both-ways false refl e)
+long-like a (longLiteral b) e = (b, refl, e)
+long-like a (floatLiteral b) e = absurd (both-ways false refl e)
+long-like a (doubleLiteral b) e = absurd (both-ways false refl e)
+long-like a (bytesLiteral b) e = absurd (both-ways false refl e)
+long-like a structLiteral e = absurd (both-ways false refl e)
+long-like a listLiteral e = absurd (both-ways false refl e)
+long-like a mapLiteral e = absurd (both-ways false refl e)
 
-single-like : (a : ℕ) (y : Literal) → sameLiteral (floatLiteral a) y ≡ true → (b : ℕ) × (y ≡ floatLiteral b) × (same32 a b ≡ true)
-single-like a nullLiteral e = absurd (both-ways false refl e)
-single-like a (booleanLiteral b) e = absurd (both-ways false refl e)
-single-like a (intLiteral b) e = absurd (both-ways false refl e)
-single-like a (longLiteral b) e = absurd (both-ways false refl e)
-single-like a (floatLiteral b) e = (b, refl, e)
-single-like a (doubleLiteral b) e = absurd (both-ways false refl e)
-single-like a (bytesLiteral b) e = absurd (both-ways false refl e)
-single-like a structLiteral e = absurd (both-ways false refl e)
-single-like a listLiteral e = absurd (both-ways false refl e)
-single-like a mapLiteral e = absurd (both-ways false refl e)
+float-like : (a : ℕ) (y : Literal) → sameLiteral (floatLiteral a) y ≡ true → (b : ℕ) × (y ≡ floatLiteral b) × (same32 a b ≡ true)
+float-like a nullLiteral e = absurd (both-ways false refl e)
+float-like a (booleanLiteral b) e = absurd (both-ways false refl e)
+float-like a (intLiteral b) e = absurd (both-ways false refl e)
+float-like a (longLiteral b) e = absurd (both-ways false refl e)
+float-like a (floatLiteral b) e = (b, refl, e)
+float-like a (doubleLiteral b) e = absurd (both-ways false refl e)
+float-like a (bytesLiteral b) e = absurd (both-ways false refl e)
+float-like a structLiteral e = absurd (both-ways false refl e)
+float-like a listLiteral e = absurd (both-ways false refl e)
+float-like a mapLiteral e = absurd (both-ways false refl e)
 
-doubled-like : (a : ℕ) (y : Literal) → sameLiteral (doubleLiteral a) y ≡ true → (b : ℕ) × (y ≡ doubleLiteral b) × (same64 a b ≡ true)
-doubled-like a nullLiteral e = absurd (both-ways false refl e)
-doubled-like a (booleanLiteral b) e = absurd (both-ways false refl e)
-doubled-like a (intLiteral b) e = absurd (both-ways false refl e)
-doubled-like a (longLiteral b) e = absurd (both-ways false refl e)
-doubled-like a (floatLiteral b) e = absurd (both-ways false refl e)
-doubled-like a (doubleLiteral b) e = (b, refl, e)
-doubled-like a (bytesLiteral b) e = absurd (both-ways false refl e)
-doubled-like a structLiteral e = absurd (both-ways false refl e)
-doubled-like a listLiteral e = absurd (both-ways false refl e)
-doubled-like a mapLiteral e = absurd (both-ways false refl e)
+double-like : (a : ℕ) (y : Literal) → sameLiteral (doubleLiteral a) y ≡ true → (b : ℕ) × (y ≡ doubleLiteral b) × (same64 a b ≡ true)
+double-like a nullLiteral e = absurd (both-ways false refl e)
+double-like a (booleanLiteral b) e = absurd (both-ways false refl e)
+double-like a (intLiteral b) e = absurd (both-ways false refl e)
+double-like a (longLiteral b) e = absurd (both-ways false refl e)
+double-like a (floatLiteral b) e = absurd (both-ways false refl e)
+double-like a (doubleLiteral b) e = (b, refl, e)
+double-like a (bytesLiteral b) e = absurd (both-ways false refl e)
+double-like a structLiteral e = absurd (both-ways false refl e)
+double-like a listLiteral e = absurd (both-ways false refl e)
+double-like a mapLiteral e = absurd (both-ways false refl e)
 
-raw-like : (a : List ℕ) (y : Literal) → sameLiteral (bytesLiteral a) y ≡ true → (b : List ℕ) × (y ≡ bytesLiteral b) × (sameBytes a b ≡ true)
-raw-like a nullLiteral e = absurd (both-ways false refl e)
-raw-like a (booleanLiteral b) e = absurd (both-ways false refl e)
-raw-like a (intLiteral b) e = absurd (both-ways false refl e)
-raw-like a (longLiteral b) e = absurd (both-ways false refl e)
-raw-like a (floatLiteral b) e = absurd (both-ways false refl e)
-raw-like a (doubleLiteral b) e = absurd (both-ways false refl e)
-raw-like a (bytesLiteral b) e = (b, refl, e)
-raw-like a structLiteral e = absurd (both-ways false refl e)
-raw-like a listLiteral e = absurd (both-ways false refl e)
-raw-like a mapLiteral e = absurd (both-ways false refl e)
+bytes-like : (a : List ℕ) (y : Literal) → sameLiteral (bytesLiteral a) y ≡ true → (b : List ℕ) × (y ≡ bytesLiteral b) × (sameBytes a b ≡ true)
+bytes-like a nullLiteral e = absurd (both-ways false refl e)
+bytes-like a (booleanLiteral b) e = absurd (both-ways false refl e)
+bytes-like a (intLiteral b) e = absurd (both-ways false refl e)
+bytes-like a (longLiteral b) e = absurd (both-ways false refl e)
+bytes-like a (floatLiteral b) e = absurd (both-ways false refl e)
+bytes-like a (doubleLiteral b) e = absurd (both-ways false refl e)
+bytes-like a (bytesLiteral b) e = (b, refl, e)
+bytes-like a structLiteral e = absurd (both-ways false refl e)
+bytes-like a listLiteral e = absurd (both-ways false refl e)
+bytes-like a mapLiteral e = absurd (both-ways false refl e)
 
-value-flip : (x y : Literal) → sameLiteral x y ≡ true → sameLiteral y x ≡ true
-value-flip (booleanLiteral a) y e = let r = truth-like a y e in subst (λ (z : Literal). sameLiteral z (booleanLiteral a) ≡ true) (sym (r .1)) (truths .flip a (r .0) (r .2))
-value-flip (intLiteral a) y e = let r = whole-like a y e in subst (λ (z : Literal). sameLiteral z (intLiteral a) ≡ true) (sym (r .1)) (wholes .flip a (r .0) (r .2))
-value-flip (longLiteral a) y e = let r = longer-like a y e in subst (λ (z : Literal). sameLiteral z (longLiteral a) ≡ true) (sym (r .1)) (wholes .flip a (r .0) (r .2))
-value-flip (floatLiteral a) y e = let r = single-like a y e in subst (λ (z : Literal). sameLiteral z (floatLiteral a) ≡ true) (sym (r .1)) (singles .flip a (r .0) (r .2))
-value-flip (doubleLiteral a) y e = let r = doubled-like a y e in subst (λ (z : Literal). sameLiteral z (doubleLiteral a) ≡ true) (sym (r .1)) (doubles .flip a (r .0) (r .2))
-value-flip (bytesLiteral a) y e = let r = raw-like a y e in subst (λ (z : Literal). sameLiteral z (bytesLiteral a) ≡ true) (sym (r .1)) (bytes .flip a (r .0) (r .2))
-value-flip nullLiteral y e = absurd (both-ways false refl e)
-value-flip structLiteral y e = absurd (both-ways false refl e)
-value-flip listLiteral y e = absurd (both-ways false refl e)
-value-flip mapLiteral y e = absurd (both-ways false refl e)
+literal-flip : (x y : Literal) → sameLiteral x y ≡ true → sameLiteral y x ≡ true
+literal-flip (booleanLiteral a) y e = let r = boolean-like a y e in subst (λ (z : Literal). sameLiteral z (booleanLiteral a) ≡ true) (sym (r .1)) (booleans .flip a (r .0) (r .2))
+literal-flip (intLiteral a) y e = let r = int-like a y e in subst (λ (z : Literal). sameLiteral z (intLiteral a) ≡ true) (sym (r .1)) (integers .flip a (r .0) (r .2))
+literal-flip (longLiteral a) y e = let r = long-like a y e in subst (λ (z : Literal). sameLiteral z (longLiteral a) ≡ true) (sym (r .1)) (integers .flip a (r .0) (r .2))
+literal-flip (floatLiteral a) y e = let r = float-like a y e in subst (λ (z : Literal). sameLiteral z (floatLiteral a) ≡ true) (sym (r .1)) (floats32 .flip a (r .0) (r .2))
+literal-flip (doubleLiteral a) y e = let r = double-like a y e in subst (λ (z : Literal). sameLiteral z (doubleLiteral a) ≡ true) (sym (r .1)) (floats64 .flip a (r .0) (r .2))
+literal-flip (bytesLiteral a) y e = let r = bytes-like a y e in subst (λ (z : Literal). sameLiteral z (bytesLiteral a) ≡ true) (sym (r .1)) (bytes .flip a (r .0) (r .2))
+literal-flip nullLiteral y e = absurd (both-ways false refl e)
+literal-flip structLiteral y e = absurd (both-ways false refl e)
+literal-flip listLiteral y e = absurd (both-ways false refl e)
+literal-flip mapLiteral y e = absurd (both-ways false refl e)
 
-value-join : (x y z : Literal) → sameLiteral x y ≡ true → sameLiteral y z ≡ true → sameLiteral x z ≡ true
-value-join (booleanLiteral a) y z e f =
-    let r = truth-like a y e in
-    let q = truth-like (r .0) z (subst (λ (w : Literal). sameLiteral w z ≡ true) (r .1) f) in
-    subst (λ (w : Literal). sameLiteral (booleanLiteral a) w ≡ true) (sym (q .1)) (truths .join a (r .0) (q .0) (r .2) (q .2))
-value-join (intLiteral a) y z e f =
-    let r = whole-like a y e in
-    let q = whole-like (r .0) z (subst (λ (w : Literal). sameLiteral w z ≡ true) (r .1) f) in
-    subst (λ (w : Literal). sameLiteral (intLiteral a) w ≡ true) (sym (q .1)) (wholes .join a (r .0) (q .0) (r .2) (q .2))
-value-join (longLiteral a) y z e f =
-    let r = longer-like a y e in
-    let q = longer-like (r .0) z (subst (λ (w : Literal). sameLiteral w z ≡ true) (r .1) f) in
-    subst (λ (w : Literal). sameLiteral (longLiteral a) w ≡ true) (sym (q .1)) (wholes .join a (r .0) (q .0) (r .2) (q .2))
-value-join (floatLiteral a) y z e f =
-    let r = single-like a y e in
-    let q = single-like (r .0) z (subst (λ (w : Literal). sameLiteral w z ≡ true) (r .1) f) in
-    subst (λ (w : Literal). sameLiteral (floatLiteral a) w ≡ true) (sym (q .1)) (singles .join a (r .0) (q .0) (r .2) (q .2))
-value-join (doubleLiteral a) y z e f =
-    let r = doubled-like a y e in
-    let q = doubled-like (r .0) z (subst (λ (w : Literal). sameLiteral w z ≡ true) (r .1) f) in
-    subst (λ (w : Literal). sameLiteral (doubleLiteral a) w ≡ true) (sym (q .1)) (doubles .join a (r .0) (q .0) (r .2) (q .2))
-value-join (bytesLiteral a) y z e f =
-    let r = raw-like a y e in
-    let q = raw-like (r .0) z (subst (λ (w : Literal). sameLiteral w z ≡ true) (r .1) f) in
+literal-join : (x y z : Literal) → sameLiteral x y ≡ true → sameLiteral y z ≡ true → sameLiteral x z ≡ true
+literal-join (booleanLiteral a) y z e f =
+    let r = boolean-like a y e in
+    let q = boolean-like (r .0) z (subst (λ (w : Literal). sameLiteral w z ≡ true) (r .1) f) in
+    subst (λ (w : Literal). sameLiteral (booleanLiteral a) w ≡ true) (sym (q .1)) (booleans .join a (r .0) (q .0) (r .2) (q .2))
+literal-join (intLiteral a) y z e f =
+    let r = int-like a y e in
+    let q = int-like (r .0) z (subst (λ (w : Literal). sameLiteral w z ≡ true) (r .1) f) in
+    subst (λ (w : Literal). sameLiteral (intLiteral a) w ≡ true) (sym (q .1)) (integers .join a (r .0) (q .0) (r .2) (q .2))
+literal-join (longLiteral a) y z e f =
+    let r = long-like a y e in
+    let q = long-like (r .0) z (subst (λ (w : Literal). sameLiteral w z ≡ true) (r .1) f) in
+    subst (λ (w : Literal). sameLiteral (longLiteral a) w ≡ true) (sym (q .1)) (integers .join a (r .0) (q .0) (r .2) (q .2))
+literal-join (floatLiteral a) y z e f =
+    let r = float-like a y e in
+    let q = float-like (r .0) z (subst (λ (w : Literal). sameLiteral w z ≡ true) (r .1) f) in
+    subst (λ (w : Literal). sameLiteral (floatLiteral a) w ≡ true) (sym (q .1)) (floats32 .join a (r .0) (q .0) (r .2) (q .2))
+literal-join (doubleLiteral a) y z e f =
+    let r = double-like a y e in
+    let q = double-like (r .0) z (subst (λ (w : Literal). sameLiteral w z ≡ true) (r .1) f) in
+    subst (λ (w : Literal). sameLiteral (doubleLiteral a) w ≡ true) (sym (q .1)) (floats64 .join a (r .0) (q .0) (r .2) (q .2))
+literal-join (bytesLiteral a) y z e f =
+    let r = bytes-like a y e in
+    let q = bytes-like (r .0) z (subst (λ (w : Literal). sameLiteral w z ≡ true) (r .1) f) in
     subst (λ (w : Literal). sameLiteral (bytesLiteral a) w ≡ true) (sym (q .1)) (bytes .join a (r .0) (q .0) (r .2) (q .2))
-value-join nullLiteral y z e f = absurd (both-ways false refl e)
-value-join structLiteral y z e f = absurd (both-ways false refl e)
-value-join listLiteral y z e f = absurd (both-ways false refl e)
-value-join mapLiteral y z e f = absurd (both-ways false refl e)
+literal-join nullLiteral y z e f = absurd (both-ways false refl e)
+literal-join structLiteral y z e f = absurd (both-ways false refl e)
+literal-join listLiteral y z e f = absurd (both-ways false refl e)
+literal-join mapLiteral y z e f = absurd (both-ways false refl e)
 
 -- the pairs of a map's slot, put in one after another by the keys' values
 pub pairs-inserted : (x : Column) (ks : List Value) (i : ℕ) → keptPairs x ks i ≡ insertedAll (λ a b. sameLiteral (slot ks a .0) (slot ks b .0)) [] (spanSlots x i)
 pairs-inserted x ks i =
-    sym (inserted-kept (λ a b. sameLiteral (slot ks a .0) (slot ks b .0)) (record { flip = λ a b. value-flip (slot ks a .0) (slot ks b .0); join = λ a b c. value-join (slot ks a .0) (slot ks b .0) (slot ks c .0) }) (spanSlots x i))
+    sym (inserted-kept (λ a b. sameLiteral (slot ks a .0) (slot ks b .0)) (record { flip = λ a b. literal-flip (slot ks a .0) (slot ks b .0); join = λ a b c. literal-join (slot ks a .0) (slot ks b .0) (slot ks c .0) }) (spanSlots x i))

@@ -14,7 +14,7 @@ use Rattle.meaning.specs.Equal.{sameInteger}
 use Rattle.meaning.specs.Codes.{float?}
 use Rattle.meaning.specs.Nans.{nans, hiddenNans}
 use Rattle.meaning.specs.Reaches.{Reach}
-use Rattle.meaning.proofs.SlotSums.{sumTo, tally-upto, sum-none}
+use Rattle.meaning.proofs.SlotSums.{sumTo, tally-upto, sumTo-none}
 use Rattle.meaning.proofs.Codes.{no-nan}
 use Rattle.meaning.proofs.FoundReaches.{shownNans, shownIn}
 
@@ -52,7 +52,7 @@ module _ (m : Model) where
       ∙ ap (λ k. k + hiddenNans m r) (tally-upto (λ i. nan (at m (r .column)) i && r .shown i) (at m (r .column) .len))
 
   pub nans-none : (c : ℕ) → float? m c ≡ false → nans m c ≡ 0
-  nans-none c e = tally-upto (nan (at m c)) (at m c .len) ∙ sum-none (at m c .len) _ (λ i h. ap (λ (b : Bool). cond (not (null (at m c) i) && b) 1 0) (no-nan (at m c .code) (at m c .body) i e) ∙ ap (λ (b : Bool). cond b 1 0) (and-false (not (null (at m c) i))))
+  nans-none c e = tally-upto (nan (at m c)) (at m c .len) ∙ sumTo-none (at m c .len) _ (λ i h. ap (λ (b : Bool). cond (not (null (at m c) i) && b) 1 0) (no-nan (at m c .code) (at m c .body) i e) ∙ ap (λ (b : Bool). cond b 1 0) (and-false (not (null (at m c) i))))
 
   pub nans-small : (c : ℕ) → nans m c ≤ at m c .len
   nans-small c = subst (λ k. k ≤ at m c .len) (sym (tally-upto (nan (at m c)) (at m c .len))) (tally-small (nan (at m c)) (at m c .len))

@@ -25,8 +25,8 @@ use Rattle.meaning.specs.Nans.{nans, nansIn}
 use Rattle.meaning.specs.Table.{Table, countOf, Answer, answer}
 use Rattle.meaning.specs.CounterLaw.{Call, computes, floatAdditions, sumOf, hiddenNansOf, nansInRows, rowNansOf, Rows-law}
 use Rattle.meaning.proofs.KeepsPremises.{keeps-premises}
-use Rattle.meaning.proofs.SlotSums.{total-upto, sum-ext}
-use Rattle.meaning.proofs.AcceptedSteps.{chain-ok}
+use Rattle.meaning.proofs.SlotSums.{sum-upto, sumTo-equal}
+use Rattle.meaning.proofs.AcceptedSteps.{andThen-ok}
 use Rattle.meaning.proofs.FoundReaches.{Good}
 use Rattle.meaning.proofs.ShownNans.{inParts, conserves}
 use Rattle.meaning.proofs.NanSums.{reachSum, sum-hidden, reach-bound, nans-small, nans-none}
@@ -69,14 +69,14 @@ module _ (c : Call) (id : ℤ) where
   row-shown i n k h = rw (lt-ltb i n h) refl
 
   rows-shown : inParts m (c .pick) id (m .fields) struct 1 0 (λ i. ltb i (m .rows)) ≡ rowNansOf c id
-  rows-shown = sum-ext (m .rows) _ _ (λ i h. row-shown i (m .rows) _ h) ∙ (sym (total-upto _ (m .rows)) ∙ sym (rows-joined (upto (m .rows))))
+  rows-shown = sumTo-equal (m .rows) _ _ (λ i h. row-shown i (m .rows) _ h) ∙ (sym (sum-upto _ (m .rows)) ∙ sym (rows-joined (upto (m .rows))))
 
   -- where conversion accepts, the walk finds no refusal, few reaches, and shows the NaNs of the rows
   module _ (cells taken : ℕ) (e : converts m (c .pick) cells ≡ Ok taken) where
     walked : Good m id (reached m (c .pick)) (size (m .fields)) (inParts m (c .pick) id (m .fields) struct 1 0 (λ i. ltb i (m .rows)))
     walked =
         let k = keeps-premises m (c .keeps) in
-        let a = chain-ok m (c .pick) cells (checkFields m (c .pick) cells (m .fields) struct 0 1 0 0) _ taken e in
+        let a = andThen-ok m (c .pick) cells (checkFields m (c .pick) cells (m .fields) struct 0 1 0 0) _ taken e in
         conserves m (c .pick) id cells k (c .own) (m .fields) struct 0 1 0 (λ i. ltb i (m .rows)) 0 (a .0) tt (k .formed) tt (a .1)
 
     few : length ours ≤ 256

@@ -23,11 +23,11 @@ use Rattle.meaning.specs.Nans.{nanLiteral, sumElements, sumPairs, nansIn}
 use Rattle.meaning.specs.Reaches.{reaches, shownWithin}
 use Rattle.meaning.specs.Keeps.{Plain}
 use Rattle.meaning.proofs.Premises.{key-plain, Exactly, Formed, Premises}
-use Rattle.meaning.proofs.KeyEquality.{same-alike}
-use Rattle.meaning.proofs.SlotSums.{sumTo, anyTo, any-upto, sum-ext, sum-none, sum-add, sum-cond, Cuts, hit, sum-cuts}
+use Rattle.meaning.proofs.KeyEquality.{same-equivalence}
+use Rattle.meaning.proofs.SlotSums.{sumTo, anyTo, any-upto, sum-cond, Cuts, hit, sum-cuts, sumTo-equal, sumTo-none, sumTo-add}
 use Rattle.meaning.proofs.KeptPairs.{sum-kept}
 use Rattle.meaning.proofs.Spans.{list-cuts, map-cuts}
-use Rattle.meaning.proofs.AcceptedSteps.{target, Step, step, item-nan}
+use Rattle.meaning.proofs.AcceptedSteps.{Step, step, partnerColumn, literal-nan}
 use Rattle.meaning.proofs.FoundReaches.{Good, good-at, good-none, good-then, good-under, good-one}
 
 -- no parts, no NaNs; and a primitive has none in its parts
@@ -129,7 +129,7 @@ module _ (m : Model) (pick : Pick) (id : ℤ) where
     field-sum : inParts below (f .shape) (n + 1) p shown + ownNans f p shown ≡ sumTo (at m p .len) (λ j. cond (shown j) (worth f below n p j) 0)
     field-sum =
         ap (λ k. inParts below (f .shape) (n + 1) p shown + k) (sym (sum-cond (sameInteger id (f .id)) (at m p .len) (λ i. cond (nan (at m p) i && shown i) 1 0)))
-        ∙ (sum-add (at m p .len) _ _ ∙ sum-ext (at m p .len) _ _ (λ j h. field-slot j))
+        ∙ (sumTo-add (at m p .len) _ _ ∙ sumTo-equal (at m p .len) _ _ (λ j h. field-slot j))
 
   -- a slot that is cut, as the counts say it and as a sum over the slots that cut
   module _ (c : ℕ) (shown : ℕ → Bool) (fits : ℕ → ℕ → ℕ → Bool) where
@@ -139,7 +139,7 @@ module _ (m : Model) (pick : Pick) (id : ℤ) where
     within-sum : (p : ℕ) (f : ℕ → ℕ) → Cut c p
         → sumTo (at m p .len) (λ j. cond (shownWithin m c shown fits j) (f j) 0) ≡ sumTo (at m c .len) (λ i. cond (live c shown i) (sum (λ j. cond (fits (lo c i) (hi c i) j) (f j) 0) (spanSlots (at m c) i)) 0)
     within-sum p f k =
-        sum-ext (at m p .len) _ _ (λ j h. ap (λ (b : Bool). cond b (f j) 0) (within-any j))
+        sumTo-equal (at m p .len) _ _ (λ j h. ap (λ (b : Bool). cond b (f j) 0) (within-any j))
         ∙ sum-cuts (at m c .len) (at m p .len) (lo c) (hi c) k (live c shown) fits f
 
   -- a struct, field by field, at the same slots
@@ -155,7 +155,7 @@ module _ (m : Model) (pick : Pick) (id : ℤ) where
         let g : ℕ → ℕ = λ j. cond (live c shown j) (worth f below n mate j) 0 in
         sym (add-assoc _ _ _)
         ∙ (ap (λ k. k + inParts rest struct next c shown) (field-sum f below n mate (live c shown) e ∙ ap (λ k. sumTo k g) l)
-        ∙ (sum-add (at m c .len) g _ ∙ sum-ext (at m c .len) _ _ (λ i h. cond-add (live c shown i) _ _ ∙ ap (λ k. cond (live c shown i) k 0) (add-assoc _ _ _))))
+        ∙ (sumTo-add (at m c .len) g _ ∙ sumTo-equal (at m c .len) _ _ (λ i h. cond-add (live c shown i) _ _ ∙ ap (λ k. cond (live c shown i) k 0) (add-assoc _ _ _))))
 
     struct-good : partner m pick struct up c n ≡ Ok mate → Conserved below (f .shape) n (n + 1) mate (live c shown) → Conserved rest struct up next c shown → Conserved (tree f below rest) struct up n c shown
     struct-good met gb gr =
@@ -180,7 +180,7 @@ module _ (m : Model) (pick : Pick) (id : ℤ) where
     list-sum =
         field-sum f below n child (shownWithin m c shown any?) e
         ∙ (within-sum c shown any? child (worth f below n child) k
-        ∙ sum-ext (at m c .len) _ _ (λ i h. ap (λ x. cond (live c shown i) x 0) (list-parts i)))
+        ∙ sumTo-equal (at m c .len) _ _ (λ i h. ap (λ x. cond (live c shown i) x 0) (list-parts i)))
 
     list-good : partner m pick list up c n ≡ Ok child → Conserved below (f .shape) n (n + 1) child (shownWithin m c shown any?) → Conserved (tree f below rest) list up n c shown
     list-good met gb =
@@ -234,9 +234,9 @@ module _ (m : Model) (pick : Pick) (id : ℤ) where
       map-sum =
           let a = field-sum f below n keyed keys e ∙ within-sum c shown (first? alike) keyed (worth f below n keyed) k in
           let b = field-sum g under′ later valued vals d ∙ within-sum c shown (last? alike) valued (worth g under′ later valued) l in
-          sym (add-assoc _ _ _) ∙ (ap₂ _+_ a b ∙ (sum-add (at m c .len) _ _ ∙ sum-ext (at m c .len) _ _ (λ i t.
+          sym (add-assoc _ _ _) ∙ (ap₂ _+_ a b ∙ (sumTo-add (at m c .len) _ _ ∙ sumTo-equal (at m c .len) _ _ (λ i t.
           cond-add (live c shown i) _ _ ∙ ap (λ x. cond (live c shown i) x 0)
-          (sym (map-parts i ∙ sum-kept alike (same-alike (f .shape) (at m keyed)) (worth f below n keyed) (worth g under′ later valued) (lo c i) (hi c i) (k .ordered i t))))))
+          (sym (map-parts i ∙ sum-kept alike (same-equivalence (f .shape) (at m keyed)) (worth f below n keyed) (worth g under′ later valued) (lo c i) (hi c i) (k .ordered i t))))))
 
       map-good : partner m pick map up c n ≡ Ok keyed → partner m pick map up c later ≡ Ok valued
           → Conserved below (f .shape) n (n + 1) keyed keys → Conserved under′ (g .shape) later (later + 1) valued vals → Conserved (tree f below (tree g under′ rest)) map up n c shown
@@ -260,22 +260,22 @@ start list n = tt
 start map n = refl
 
 module _ (m : Model) (pick : Pick) (id : ℤ) (cells : ℕ) (keeps : Premises m) (mine : Own m pick) where
-  key-column : (up c n : ℕ) → n ≡ up + 1 → target m pick cells map up c n ≡ getD (childNumbers m c) 0 0
+  key-column : (up c n : ℕ) → n ≡ up + 1 → partnerColumn m pick cells map up c n ≡ getD (childNumbers m c) 0 0
   key-column up c n e = ap (λ (b : Bool). getD (childNumbers m c) (cond b 0 1) 0) (eq-eqb n (up + 1) e)
 
-  value-column : (up c n k : ℕ) → n ≡ up + 1 → target m pick cells map up c (n + 1 + k) ≡ getD (childNumbers m c) 1 0
+  value-column : (up c n k : ℕ) → n ≡ up + 1 → partnerColumn m pick cells map up c (n + 1 + k) ≡ getD (childNumbers m c) 1 0
   value-column up c n k e = ap (λ (b : Bool). getD (childNumbers m c) (cond b 0 1) 0) (ne-eqb (n + 1 + k) (up + 1) (λ h. omega arith))
 
   -- what is below a type at column c: no refusal, at most as many reaches as fields, and the shown NaNs are those of the parts
   pub conserves : (fs : Forest Field) (s : Shape) (up n c : ℕ) (shown : ℕ → Bool) (taken t : ℕ) → Start s up n → Formed fs → Exactly s fs → checkFields m pick cells fs s up n c taken ≡ Ok t
       → Conserved m pick id fs s up n c shown
-  conserves none s up n c shown taken t b sh ho e = good-at m id ([], None) 0 0 0 _ (omega arith) (sym (sum-none (at m c .len) _ (λ i h. cond-zero (live m pick id c shown i)))) (good-none m id 0)
+  conserves none s up n c shown taken t b sh ho e = good-at m id ([], None) 0 0 0 _ (omega arith) (sym (sumTo-none (at m c .len) _ (λ i h. cond-zero (live m pick id c shown i)))) (good-none m id 0)
   conserves (tree f below rest) (prim k) up n c shown taken t b sh ho e = absurd (step m pick cells f below rest (prim k) up n c taken t e .0)
   conserves (tree f below rest) struct up n c shown taken t b sh ho e =
       let st = step m pick cells f below rest struct up n c taken t e in
       let p : ℕ = orZero (pick c n) in
       struct-good m pick id f below rest up n c shown
-      (item-nan m pick cells (f .shape) below n p taken (st .1 .t₁) (st .1 .t₂) (sh .0) (st .1 .inner) (st .1 .mine))
+      (literal-nan m pick cells (f .shape) below n p taken (st .1 .t₁) (st .1 .t₂) (sh .0) (st .1 .inner) (st .1 .mine))
       (keeps .level c p (st .0 .0) (mine c n p (st .0 .1)))
       (st .1 .met)
       (conserves below (f .shape) n (n + 1) p (live m pick id c shown) taken (st .1 .t₁) (start (f .shape) n) (sh .1) (sh .0) (st .1 .inner))
@@ -284,7 +284,7 @@ module _ (m : Model) (pick : Pick) (id : ℤ) (cells : ℕ) (keeps : Premises m)
       let st = step m pick cells f below rest list up n c taken t e in
       let p : ℕ = getD (childNumbers m c) 0 0 in
       list-good m pick id f below rest up n c shown
-      (item-nan m pick cells (f .shape) below n p taken (st .1 .t₁) (st .1 .t₂) (sh .0) (st .1 .inner) (st .1 .mine))
+      (literal-nan m pick cells (f .shape) below n p taken (st .1 .t₁) (st .1 .t₂) (sh .0) (st .1 .inner) (st .1 .mine))
       (list-cuts (at m c .code) (at m c) (at m p .len) (st .0) (keeps .cutting c))
       (st .1 .met)
       (conserves below (f .shape) n (n + 1) p (shownWithin m c shown (any? m pick id)) taken (st .1 .t₁) (start (f .shape) n) (sh .1) (sh .0) (st .1 .inner))
@@ -300,8 +300,8 @@ module _ (m : Model) (pick : Pick) (id : ℤ) (cells : ℕ) (keeps : Premises m)
       let w : Step m pick cells g under′ rest map up v c (k .t₃) t q = subst (λ (x : ℕ). Step m pick cells g under′ rest map up v c (k .t₃) t x) (value-column up c n (size below) b) (su .1) in
       let cuts : Cut m pick id c p = map-cuts (at m c .code) (at m c) (at m p .len) (st .0) (keeps .cutting c) in
       map-good m pick id f g below under′ rest up n c shown (key-plain f g below under′ rest ho)
-      (item-nan m pick cells (f .shape) below n p taken (k .t₁) (k .t₂) (sh .0) (k .inner) (k .mine))
-      (item-nan m pick cells (g .shape) under′ v q (k .t₃) (w .t₁) (w .t₂) (sh .2 .0) (w .inner) (w .mine))
+      (literal-nan m pick cells (f .shape) below n p taken (k .t₁) (k .t₂) (sh .0) (k .inner) (k .mine))
+      (literal-nan m pick cells (g .shape) under′ v q (k .t₃) (w .t₁) (w .t₂) (sh .2 .0) (w .inner) (w .mine))
       cuts
       (subst (λ l. Cuts (at m c .len) l (lo m pick id c) (hi m pick id c)) (sym (keeps .paired c (st .0))) cuts)
       (k .met)

@@ -33,33 +33,33 @@ upto-at P (suc n) a zero h = a .0
 upto-at P (suc n) a (suc i) h = upto-at (λ k. P (suc k)) n (each-all P suc (upto n) (a .1)) i (omega arith)
 
 -- tests, sums and lists of equal terms
-pub some-ext : (f g : ℕ → Bool) (xs : List ℕ) → All (λ i. f i ≡ g i) xs → anyOf f xs ≡ anyOf g xs
-some-ext f g [] a = refl
-some-ext f g (x ∷ xs) a = ap₂ _||_ (a .0) (some-ext f g xs (a .1))
+pub any-equal : (f g : ℕ → Bool) (xs : List ℕ) → All (λ i. f i ≡ g i) xs → anyOf f xs ≡ anyOf g xs
+any-equal f g [] a = refl
+any-equal f g (x ∷ xs) a = ap₂ _||_ (a .0) (any-equal f g xs (a .1))
 
-pub some-none : (f : ℕ → Bool) (xs : List ℕ) → All (λ i. f i ≡ false) xs → anyOf f xs ≡ false
-some-none f [] a = refl
-some-none f (x ∷ xs) a = ap₂ _||_ (a .0) (some-none f xs (a .1))
+pub any-none : (f : ℕ → Bool) (xs : List ℕ) → All (λ i. f i ≡ false) xs → anyOf f xs ≡ false
+any-none f [] a = refl
+any-none f (x ∷ xs) a = ap₂ _||_ (a .0) (any-none f xs (a .1))
 
 or-off : (a b : Bool) → (a || b) ≡ false → (a ≡ false) × (b ≡ false)
 or-off true b e = (cc, cc)
 or-off false b e = (refl, e)
 
-pub none-all : (f : ℕ → Bool) (xs : List ℕ) → anyOf f xs ≡ false → All (λ i. f i ≡ false) xs
-none-all f [] e = tt
-none-all f (x ∷ xs) e = let h = or-off (f x) (anyOf f xs) e in (h .0, none-all f xs (h .1))
+pub none-any : (f : ℕ → Bool) (xs : List ℕ) → anyOf f xs ≡ false → All (λ i. f i ≡ false) xs
+none-any f [] e = tt
+none-any f (x ∷ xs) e = let h = or-off (f x) (anyOf f xs) e in (h .0, none-any f xs (h .1))
 
-pub sum-ext : (f g : ℕ → ℕ) (xs : List ℕ) → All (λ i. f i ≡ g i) xs → sum f xs ≡ sum g xs
-sum-ext f g [] a = refl
-sum-ext f g (x ∷ xs) a = ap₂ _+_ (a .0) (sum-ext f g xs (a .1))
+pub sum-equal : (f g : ℕ → ℕ) (xs : List ℕ) → All (λ i. f i ≡ g i) xs → sum f xs ≡ sum g xs
+sum-equal f g [] a = refl
+sum-equal f g (x ∷ xs) a = ap₂ _+_ (a .0) (sum-equal f g xs (a .1))
 
-pub each-ext : {X Y : Type 0} (f g : X → Y) (xs : List X) → All (λ i. f i ≡ g i) xs → each f xs ≡ each g xs
-each-ext f g [] a = refl
-each-ext f g (x ∷ xs) a = ap₂ _∷_ (a .0) (each-ext f g xs (a .1))
+pub each-equal : {X Y : Type 0} (f g : X → Y) (xs : List X) → All (λ i. f i ≡ g i) xs → each f xs ≡ each g xs
+each-equal f g [] a = refl
+each-equal f g (x ∷ xs) a = ap₂ _∷_ (a .0) (each-equal f g xs (a .1))
 
-pub joined-ext : {X : Type 0} (f g : X → Values) (xs : List X) → All (λ i. f i ≡ g i) xs → joined f xs ≡ joined g xs
-joined-ext f g [] a = refl
-joined-ext f g (x ∷ xs) a = ap₂ beside (a .0) (joined-ext f g xs (a .1))
+pub joined-equal : {X : Type 0} (f g : X → Values) (xs : List X) → All (λ i. f i ≡ g i) xs → joined f xs ≡ joined g xs
+joined-equal f g [] a = refl
+joined-equal f g (x ∷ xs) a = ap₂ beside (a .0) (joined-equal f g xs (a .1))
 
 -- the values of n slots: how many they are, and each at its place
 pub each-each : {X Y Z : Type 0} (f : Y → Z) (g : X → Y) (xs : List X) → each f (each g xs) ≡ each (λ k. f (g k)) xs

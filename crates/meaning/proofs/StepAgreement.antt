@@ -21,12 +21,12 @@ Agrees x (Ok t) v = x ≡ (Ok v, t)
 Agrees x (Err e) v = x .0 ≡ Err e
 
 -- a test that refuses, and one that cannot
-pub agrees-unless : {X : Type 0} (b : Bool) (e : StepFault) (k : Step ℕ X) (s : ℕ) (r : Result ℕ StepFault) (v : X) → (b ≡ false → Agrees (k s) r v) → Agrees (refuseIf b e k s) (cond b (Err e) r) v
-agrees-unless true e k s r v h = refl
-agrees-unless false e k s r v h = h refl
+pub agrees-refuseIf : {X : Type 0} (b : Bool) (e : StepFault) (k : Step ℕ X) (s : ℕ) (r : Result ℕ StepFault) (v : X) → (b ≡ false → Agrees (k s) r v) → Agrees (refuseIf b e k s) (cond b (Err e) r) v
+agrees-refuseIf true e k s r v h = refl
+agrees-refuseIf false e k s r v h = h refl
 
 pub agrees-retest : {X : Type 0} (b d : Bool) (e : StepFault) (k : Step ℕ X) (s : ℕ) (r : Result ℕ StepFault) (v : X) → b ≡ d → (d ≡ false → Agrees (k s) r v) → Agrees (refuseIf b e k s) (cond d (Err e) r) v
-agrees-retest b d e k s r v h a = subst (λ (x : Bool). Agrees (refuseIf x e k s) (cond d (Err e) r) v) (sym h) (agrees-unless d e k s r v a)
+agrees-retest b d e k s r v h a = subst (λ (x : Bool). Agrees (refuseIf x e k s) (cond d (Err e) r) v) (sym h) (agrees-refuseIf d e k s r v a)
 
 pub agrees-test : {X : Type 0} (b : Bool) (e : StepFault) (k : Step ℕ X) (s : ℕ) (r : Result ℕ StepFault) (v : X) → Agrees (k s) r v → Agrees (refuseIf (not b) e k s) (cond b r (Err e)) v
 agrees-test true e k s r v h = h
@@ -35,12 +35,12 @@ agrees-test false e k s r v h = refl
 pub agrees-pass : {X : Type 0} (b : Bool) (e : StepFault) (k : Step ℕ X) (s : ℕ) (r : Result ℕ StepFault) (v : X) → b ≡ false → Agrees (k s) r v → Agrees (refuseIf b e k s) r v
 agrees-pass b e k s r v h a = subst (λ (c : Bool). Agrees (refuseIf c e k s) r v) (sym h) a
 
-pub agrees-given : {X Y : Type 0} (o : Option X) (x : X) (e : StepFault) (k : X → Step ℕ Y) (s : ℕ) (r : Result ℕ StepFault) (v : Y) → o ≡ Some x → Agrees (k x s) r v → Agrees (orRefuse o e k s) r v
-agrees-given o x e k s r v h a = subst (λ p. Agrees (orRefuse p e k s) r v) (sym h) a
+pub agrees-orRefuse : {X Y : Type 0} (o : Option X) (x : X) (e : StepFault) (k : X → Step ℕ Y) (s : ℕ) (r : Result ℕ StepFault) (v : Y) → o ≡ Some x → Agrees (k x s) r v → Agrees (orRefuse o e k s) r v
+agrees-orRefuse o x e k s r v h a = subst (λ p. Agrees (orRefuse p e k s) r v) (sym h) a
 
 pub agrees-sought : {X Y : Type 0} (m : Model) (o : Option X) (x : X) (n c : ℕ) (k : X → Step ℕ Y) (s : ℕ) (r : Result ℕ StepFault) (v : Y) → o ≡ Some x → missing m c ≡ false → Agrees (k x s) r v
     → Agrees (sought m o n c k s) r v
-agrees-sought m o x n c k s r v h i a = agrees-given o x (fault 9 c n) (λ x. refuseIf (missing m c) (fault 9 c n) (k x)) s r v h (agrees-pass (missing m c) (fault 9 c n) (k x) s r v i a)
+agrees-sought m o x n c k s r v h i a = agrees-orRefuse o x (fault 9 c n) (λ x. refuseIf (missing m c) (fault 9 c n) (k x)) s r v h (agrees-pass (missing m c) (fault 9 c n) (k x) s r v i a)
 
 -- the same values under another name
 pub agrees-as : {X : Type 0} (x : Result X StepFault × ℕ) (r : Result ℕ StepFault) (v w : X) → v ≡ w → Agrees x r v → Agrees x r w
@@ -65,9 +65,9 @@ module _ (m : Model) (pick : Pick) (cells : ℕ) where
   agrees-then x (Ok t) v k f w a h = subst (λ y. Agrees (bindResult k y) (f t) w) (sym a) (h t refl)
   agrees-then x (Err e) v k f w a h = refused-then x k e a
 
-  pub chain-chain : (r : Result ℕ StepFault) (f g : ℕ → Result ℕ StepFault) → andThen (andThen r f) g ≡ andThen r (λ t. andThen (f t) g)
-  chain-chain (Ok t) f g = refl
-  chain-chain (Err e) f g = refl
+  pub andThen-andThen : (r : Result ℕ StepFault) (f g : ℕ → Result ℕ StepFault) → andThen (andThen r f) g ≡ andThen r (λ t. andThen (f t) g)
+  andThen-andThen (Ok t) f g = refl
+  andThen-andThen (Err e) f g = refl
 
   -- a value in front of others
   pub agrees-push : {X : Type 0} (x : Result (List X) StepFault × ℕ) (r : Result ℕ StepFault) (v : X) (vs : List X) → Agrees x r vs → Agrees (bindResult (λ ts. ret (v ∷ ts)) x) r (v ∷ vs)

@@ -14,7 +14,7 @@ use Rattle.std.proofs.shelf.Tests.{cases-bool}
 use Rattle.meaning.specs.Equal.{sameInteger}
 use Rattle.meaning.specs.Table.{CountEntry, Table, saturated, added, countOf, hasId}
 use lib.Signed.{ltZ}
-use Rattle.meaning.proofs.IdOrder.{same-self, same-eq, below-apart, below-on, below-else}
+use Rattle.meaning.proofs.IdOrder.{same-self, same-eq, less-apart, less-less, less-else}
 
 -- every entry's id is above this one
 abbrev pub Above : ℤ → Table → Type 0
@@ -27,12 +27,12 @@ Ascending (e ∷ es) = Above (e .id) es × Ascending es
 
 above-on : (a b : ℤ) (t : Table) → ltZ a b ≡ true → Above b t → Above a t
 above-on a b [] h k = tt
-above-on a b (e ∷ es) h k = (below-on a b (e .id) h (k .0), above-on a b es h (k .1))
+above-on a b (e ∷ es) h k = (less-less a b (e .id) h (k .0), above-on a b es h (k .1))
 
 -- an id below all others has no entry
 above-none : (id : ℤ) (t : Table) → Above id t → countOf t id ≡ None
 above-none id [] k = refl
-above-none id (e ∷ es) k = rw (below-apart id (e .id) (k .0)) (above-none id es (k .1))
+above-none id (e ∷ es) k = rw (less-apart id (e .id) (k .0)) (above-none id es (k .1))
 
 -- an addition keeps the order
 above-added : (a : ℤ) (t : Table) (id : ℤ) (n : ℕ) → ltZ a id ≡ true → Above a t → Above a (added t id n)
@@ -53,7 +53,7 @@ ascending-added (e ∷ es) id n k =
       | inl s ↦ rw s (subst (λ (x : ℤ). Above x es) (sym (same-eq id (e .id) s)) (k .0), k .1)
       | inr s ↦ elim (cases-bool (ltZ id (e .id))) [
         | inl b ↦ rw (s, b) ((b, above-on id (e .id) es b (k .0)), k)
-        | inr b ↦ rw (s, b) (above-added (e .id) es id n (below-else id (e .id) s b) (k .0), ascending-added es id n (k .1))
+        | inr b ↦ rw (s, b) (above-added (e .id) es id n (less-else id (e .id) s b) (k .0), ascending-added es id n (k .1))
       ]
     ]
 
@@ -69,7 +69,7 @@ counted-added (e ∷ es) id n q k =
     elim (cases-bool (sameInteger id (e .id))) [
       | inl s ↦ rw (s, ← (same-eq id (e .id) s)) (elim (cases-bool (sameInteger q id)) [ inl c ↦ rw c | inr c ↦ rw c ])
       | inr s ↦ elim (cases-bool (ltZ id (e .id))) [
-        | inl b ↦ rw (s, b) (elim (cases-bool (sameInteger q id)) [ inl c ↦ rw (c, same-eq q id c, below-apart id (e .id) b, above-none id es (above-on id (e .id) es b (k .0))) | inr c ↦ rw c ])
+        | inl b ↦ rw (s, b) (elim (cases-bool (sameInteger q id)) [ inl c ↦ rw (c, same-eq q id c, less-apart id (e .id) b, above-none id es (above-on id (e .id) es b (k .0))) | inr c ↦ rw c ])
         | inr b ↦ rw (s, b, counted-added es id n q (k .1)) (elim (cases-bool (sameInteger q id)) [ inl c ↦ rw (c, same-eq q id c, s) | inr c ↦ rw c ])
       ]
     ]
@@ -113,7 +113,7 @@ alike-equal (e ∷ es) (f ∷ fs) j k alike =
           ap₂ (λ (x : CountEntry) (xs : Table). x ∷ xs) (entry e f p n) (alike-equal es fs (j .1) (k .1) (rests e f es fs j k p alike))
       | inr s ↦ elim (cases-bool (ltZ (e .id) (f .id))) [
         | inl b ↦ absurd (heads e f es fs k alike b)
-        | inr b ↦ absurd (heads f e fs es j (λ q. sym (alike q)) (below-else (e .id) (f .id) s b))
+        | inr b ↦ absurd (heads f e fs es j (λ q. sym (alike q)) (less-else (e .id) (f .id) s b))
       ]
     ]
 
