@@ -16,11 +16,13 @@ use Rattle.meaning.specs.Forest.{Forest, none, tree, size}
 use Rattle.meaning.specs.Model.{Model, Column, Field, Shape, prim, struct, list, map, Primitive, boolean, int, long, float, double, date, time, timestamp, timestamptz, timestampNs, timestamptzNs, string, uuid, fixed, binary, Code, at}
 use Rattle.meaning.specs.Slots.{null, nan, nanBy}
 use Rattle.meaning.specs.Codes.{codeNumber, codeDetail, isStruct, isList, isMap, struct?, list?, map?}
-use Rattle.meaning.specs.Access.{Pick, StepFault, fault, partner, orRefused, childNumbers}
+use Rattle.meaning.specs.Access.{Pick, Own, StepFault, fault, partner, orRefused, childNumbers}
 use Rattle.meaning.specs.Lists.{orZero}
 use Rattle.meaning.specs.Literals.{nullLiteral, literalBy, literalAt}
+use Rattle.meaning.specs.Walk.{missing}
 use Rattle.meaning.specs.Converts.{hasNumber, detailIs, hasWidth, accepts, takes, fieldHook, ownHook, checkFields, andThen}
 use Rattle.meaning.specs.Nans.{nanLiteral}
+use Rattle.meaning.proofs.FieldPlaces.{found-child, found-kid}
 use Rattle.meaning.proofs.Codes.{is-float, is-double, no-nan, nested-no-nan}
 use Rattle.meaning.proofs.Premises.{Exactly}
 
@@ -83,14 +85,20 @@ ok-some : (o : Option ℕ) (e : StepFault) (p : ℕ) → orRefused o e ≡ Ok p 
 ok-some None e p h = cc
 ok-some (Some k) e p h = cc
 
--- the steps of a field that is taken, at its partner
-module _ (m : Model) (pick : Pick) (cells : ℕ) where
+-- a result that is there came of a result that was there
+pub andThen-ok : (r : Result ℕ StepFault) (k : ℕ → Result ℕ StepFault) (t : ℕ) → andThen r k ≡ Ok t → (x : ℕ) × (r ≡ Ok x) × (k x ≡ Ok t)
+andThen-ok (Ok x) k t e = (x, refl, e)
+andThen-ok (Err f) k t e = (0, cc, cc)
+
+module _ (m : Model) (pick : Pick) where
+  -- the partner of field n, held by a type of this shape
   abbrev pub partnerColumn : Shape → ℕ → ℕ → ℕ → ℕ
   partnerColumn (prim p) up c n = 0
   partnerColumn struct up c n = orZero (pick c n)
   partnerColumn list up c n = getD (childNumbers m c) 0 0
   partnerColumn map up c n = getD (childNumbers m c) (cond (eqb n (up + 1)) 0 1) 0
 
+  -- column c has a partner for field n
   abbrev pub IsPartner : Shape → ℕ → ℕ → Type 0
   IsPartner (prim p) c n = ⊥
   IsPartner struct c n = (struct? m c ≡ true) × (pick c n ≡ Some (orZero (pick c n)))
@@ -110,10 +118,15 @@ module _ (m : Model) (pick : Pick) (cells : ℕ) where
       let h : (map? m c ≡ true) × (Ok (partnerColumn map up c n) ≡ Ok p) = ok-test (map? m c) (Ok (partnerColumn map up c n)) (fault 13 c up) p e in
       (h .0, sym (ok-is (partnerColumn map up c n) p (h .1)))
 
-  pub andThen-ok : (r : Result ℕ StepFault) (k : ℕ → Result ℕ StepFault) (t : ℕ) → andThen r k ≡ Ok t → (x : ℕ) × (r ≡ Ok x) × (k x ≡ Ok t)
-  andThen-ok (Ok x) k t e = (x, refl, e)
-  andThen-ok (Err f) k t e = (0, cc, cc)
+  -- a field's partner is a column
+  pub column-found : Own m pick → (s : Shape) (up n c : ℕ) → IsPartner s c n → missing m (partnerColumn s up c n) ≡ false
+  column-found mine (prim k) up n c kind = absurd kind
+  column-found mine struct up n c kind = found-child m c (orZero (pick c n)) (mine c n (orZero (pick c n)) (kind .1))
+  column-found mine list up n c kind = found-kid m c 0
+  column-found mine map up n c kind = found-kid m c (cond (eqb n (up + 1)) 0 1)
 
+-- the steps of a field that is accepted, at its partner
+module _ (m : Model) (pick : Pick) (cells : ℕ) where
   pub record Step (f : Field) (below rest : Forest Field) (s : Shape) (up n c taken t p : ℕ) : Type 0 where
     pub met : partner m pick s up c n ≡ Ok p
     pub t₁ : ℕ
@@ -124,13 +137,13 @@ module _ (m : Model) (pick : Pick) (cells : ℕ) where
     pub after : checkFields m pick cells rest s up (n + 1 + size below) c t₃ ≡ Ok t
 
   pub step : (f : Field) (below rest : Forest Field) (s : Shape) (up n c taken t : ℕ) → checkFields m pick cells (tree f below rest) s up n c taken ≡ Ok t
-      → IsPartner s c n × Step f below rest s up n c taken t (partnerColumn s up c n)
+      → IsPartner m pick s c n × Step f below rest s up n c taken t (partnerColumn m pick s up c n)
   step f below rest s up n c taken t e =
       let a = andThen-ok (partner m pick s up c n) _ t e in
       let b = andThen-ok (checkFields m pick cells below (f .shape) n (n + 1) (a .0) taken) _ t (a .2) in
       let d = andThen-ok (ownHook m cells (f .shape) below n (a .0) (b .0)) _ t (b .2) in
       let g = andThen-ok (fieldHook m s f n c (a .0) (d .0)) _ t (d .2) in
-      let k = partner-of s up c n (a .0) (a .1) in
+      let k = partner-of m pick s up c n (a .0) (a .1) in
       (k .0, subst (λ (p : ℕ). Step f below rest s up n c taken t p) (k .1) (record { met = a .1; t₁ = b .0; inner = b .1; t₂ = d .0; mine = d .1; t₃ = g .0; after = g .2 }))
 
   -- a NaN of the column is a NaN of the value

@@ -18,11 +18,11 @@ use Rattle.meaning.proofs.KeepsPremises.{keeps-premises}
 use Rattle.meaning.proofs.Premises.{Premises, Formed}
 use Rattle.meaning.specs.Walk.{Step, ret, bind, role, close, finish, walk, bindResult, visitStruct}
 use Rattle.meaning.specs.Converter.{converter, conversion, Converted, Converted-law}
-use Rattle.meaning.proofs.AcceptedSteps.{IsPartner, partnerColumn, partner-of}
+use Rattle.meaning.proofs.AcceptedSteps.{column-found, IsPartner, partnerColumn, partner-of}
 use Rattle.meaning.proofs.FieldPlaces.{Placed, placed-all, placed-here, placed-type, placed-below, placed-rest}
 use Rattle.meaning.proofs.SlotLists.{all-upto, each-equal}
 use Rattle.meaning.proofs.StepAgreement.{Agrees, agrees-then, agrees-push, andThen-andThen}
-use Rattle.meaning.proofs.ConverterSteps.{valueOf, columnOf, results, close-agrees, target-found, finish-agrees}
+use Rattle.meaning.proofs.ConverterSteps.{valueOf, columnOf, results, close-agrees, finish-agrees}
 
 module _ (m : Model) (pick : Pick) (cells : ℕ) (keeps : Premises m) (mine : Own m pick) where
   abbrev conv : Forest Field → Shape → ℕ → ℕ → ℕ → Step ℕ (List (List Value))
@@ -48,9 +48,9 @@ module _ (m : Model) (pick : Pick) (cells : ℕ) (keeps : Premises m) (mine : Ow
         andThen (checkFields m pick cells below (f .shape) n (n + 1) p taken) (λ t. andThen (ownHook m cells (f .shape) below n p t)
         (λ t. andThen (fieldHook m s f n c p t) (λ t. checkFields m pick cells rest s up next c t)))
 
-    module _ (pl : Placed m (tree f below rest) n) (fo : Formed (tree f below rest)) (kind : IsPartner m pick cells s c n) (wb : (p : ℕ) → Walks below (f .shape) n (n + 1) p) (wr : Walks rest s up next c) where
+    module _ (pl : Placed m (tree f below rest) n) (fo : Formed (tree f below rest)) (kind : IsPartner m pick s c n) (wb : (p : ℕ) → Walks below (f .shape) n (n + 1) p) (wr : Walks rest s up next c) where
       abbrev here : ℕ
-      here = partnerColumn m pick cells s up c n
+      here = partnerColumn m pick s up c n
 
       abbrev mine′ : List Value
       mine′ = columnOf m pick (f .shape) below n here
@@ -59,25 +59,25 @@ module _ (m : Model) (pick : Pick) (cells : ℕ) (keeps : Premises m) (mine : Ow
       type-agrees : (taken : ℕ) → Agrees (bind (conv below (f .shape) n (n + 1) here) (close (converter m cells) (f .shape) n here) taken)
           (andThen (checkFields m pick cells below (f .shape) n (n + 1) here taken) (ownHook m cells (f .shape) below n here)) mine′
       type-agrees taken =
-          agrees-then m pick cells (conv below (f .shape) n (n + 1) here taken) (checkFields m pick cells below (f .shape) n (n + 1) here taken) (results m pick cells below (f .shape) n (n + 1) here)
+          agrees-then (conv below (f .shape) n (n + 1) here taken) (checkFields m pick cells below (f .shape) n (n + 1) here taken) (results m pick cells below (f .shape) n (n + 1) here)
           (close (converter m cells) (f .shape) n here) (ownHook m cells (f .shape) below n here) mine′ (wb here taken)
-          (λ t e. close-agrees m pick cells keeps mine (f .shape) below n here taken t (placed-type m f below rest n pl) (target-found m pick cells mine s up n c kind) (fo .0) (fo .1) e)
+          (λ t e. close-agrees m pick cells keeps mine (f .shape) below n here taken t (placed-type m f below rest n pl) (column-found m pick mine s up n c kind) (fo .0) (fo .1) e)
 
       -- its `field`, and the fields after it
       tail-agrees : (t : ℕ) → Agrees (bind (finish (converter m cells) (role s up n) n here mine′) following t)
           (andThen (fieldHook m s f n c here t) (λ t. checkFields m pick cells rest s up next c t)) (mine′ ∷ results m pick cells rest s up next c)
       tail-agrees t =
-          agrees-then m pick cells (finish (converter m cells) (role s up n) n here mine′ t) (fieldHook m s f n c here t) mine′
+          agrees-then (finish (converter m cells) (role s up n) n here mine′ t) (fieldHook m s f n c here t) mine′
           following (λ t. checkFields m pick cells rest s up next c t) (mine′ ∷ results m pick cells rest s up next c)
           (finish-agrees m pick cells keeps mine s f below up n c t kind (placed-here m f below rest n pl))
-          (λ u e. agrees-push m pick cells (conv rest s up next c u) (checkFields m pick cells rest s up next c u) mine′ (results m pick cells rest s up next c) (wr u))
+          (λ u e. agrees-push (conv rest s up next c u) (checkFields m pick cells rest s up next c u) mine′ (results m pick cells rest s up next c) (wr u))
 
       tree-agrees : (taken : ℕ) → Agrees (walked here taken) (checked here taken) (mine′ ∷ results m pick cells rest s up next c)
       tree-agrees taken =
           subst (λ (r : Result ℕ StepFault). Agrees (walked here taken) r (mine′ ∷ results m pick cells rest s up next c))
-          (andThen-andThen m pick cells (checkFields m pick cells below (f .shape) n (n + 1) here taken) (ownHook m cells (f .shape) below n here)
+          (andThen-andThen (checkFields m pick cells below (f .shape) n (n + 1) here taken) (ownHook m cells (f .shape) below n here)
           (λ t. andThen (fieldHook m s f n c here t) (λ t. checkFields m pick cells rest s up next c t)))
-          (agrees-then m pick cells (bind (conv below (f .shape) n (n + 1) here) (close (converter m cells) (f .shape) n here) taken)
+          (agrees-then (bind (conv below (f .shape) n (n + 1) here) (close (converter m cells) (f .shape) n here) taken)
           (andThen (checkFields m pick cells below (f .shape) n (n + 1) here taken) (ownHook m cells (f .shape) below n here)) mine′
           (λ v. bind (finish (converter m cells) (role s up n) n here v) following) (λ t. andThen (fieldHook m s f n c here t) (λ t. checkFields m pick cells rest s up next c t))
           (mine′ ∷ results m pick cells rest s up next c) (type-agrees taken) (λ t e. tail-agrees t))
@@ -93,14 +93,14 @@ module _ (m : Model) (pick : Pick) (cells : ℕ) (keeps : Premises m) (mine : Ow
           → Agrees (bindResult (λ p. walked f below rest s up n c p) (r, taken)) (andThen r (λ p. checked f below rest s up n c p taken)) (results m pick cells (tree f below rest) s up n c)
       go taken (Err e) h wb wr = refl
       go taken (Ok p) h wb wr =
-          let k = partner-of m pick cells s up c n p h in
+          let k = partner-of m pick s up c n p h in
           subst (λ (q : ℕ). Agrees (walked f below rest s up n c q taken) (checked f below rest s up n c q taken) (results m pick cells (tree f below rest) s up n c))
           (sym (k .1)) (tree-agrees f below rest s up n c pl fo (k .0) wb wr taken)
 
   -- the schema's struct at column 0
   struct-walks : Agrees (visitStruct m pick (converter m cells) 0 0) (converts m pick cells) (columnOf m pick struct (m .fields) 0 0)
   struct-walks =
-      agrees-then m pick cells (conv (m .fields) struct 0 1 0 0) (checkFields m pick cells (m .fields) struct 0 1 0 0) (results m pick cells (m .fields) struct 0 1 0)
+      agrees-then (conv (m .fields) struct 0 1 0 0) (checkFields m pick cells (m .fields) struct 0 1 0 0) (results m pick cells (m .fields) struct 0 1 0)
       (close (converter m cells) struct 0 0) (ownHook m cells struct (m .fields) 0 0) (columnOf m pick struct (m .fields) 0 0)
       (walk-agrees (m .fields) struct 0 1 0 (placed-all m) (keeps .formed) 0)
       (λ t e. close-agrees m pick cells keeps mine struct (m .fields) 0 0 0 t refl refl tt (keeps .formed) e)

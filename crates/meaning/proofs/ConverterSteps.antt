@@ -25,7 +25,7 @@ use Rattle.meaning.specs.Converter.{slot, primOf, structOf, listOf, mapOf, req
 use Rattle.meaning.proofs.SlotSums.{Cuts}
 use Rattle.meaning.proofs.Spans.{list-cuts, map-cuts}
 use Rattle.meaning.proofs.AcceptedSteps.{step, IsPartner, partnerColumn}
-use Rattle.meaning.proofs.FieldPlaces.{held-child, found-child, found-kid}
+use Rattle.meaning.proofs.FieldPlaces.{held-child, found-child}
 use Rattle.std.specs.shelf.Lists.{All}
 use Rattle.std.proofs.shelf.Elements.{all-weaker}
 use Rattle.meaning.proofs.SlotLists.{all-upto, all-from, all-both, upto-at, length-slots, slot-at, pairs-in, pairs-same, any-equal, any-none, none-any, sum-equal, each-equal, joined-equal}
@@ -117,7 +117,7 @@ module _ (m : Model) (pick : Pick) where
         (agrees-test (accepts k (at m c .code)) (fault 14 c n) _ taken _ _
         (agrees-as _ (takes cells n c (at m c .len) taken) _ _
         (each-equal _ (valueOf (prim k) none n c) (upto (at m c .len)) (all-upto _ (at m c .len) (λ i h. ap (λ (v : Values). (literalAt (prim k) (at m c) i, v)) (sym (cond-same (null (at m c) i) none)))))
-        (agrees-taking m pick cells n c (at m c .len) taken _)))
+        (agrees-taking m cells n c (at m c .len) taken _)))
 
 -- a key's value has no parts, and keys that are not null are compared as their slots are
 plain-parts : (m : Model) (pick : Pick) (s : Shape) (below : Forest Field) (n p j : ℕ) → Plain s → Exactly s below → valueOf m pick s below n p j .1 ≡ none
@@ -137,7 +137,7 @@ module _ (m : Model) (pick : Pick) (cells : ℕ) where
   -- the results of the fields below a type
   abbrev pub results : Forest Field → Shape → ℕ → ℕ → ℕ → List (List Value)
   results none s up n c = []
-  results (tree f below rest) s up n c = columnOf m pick (f .shape) below n (partnerColumn m pick cells s up c n) ∷ results rest s up (n + 1 + size below) c
+  results (tree f below rest) s up n c = columnOf m pick (f .shape) below n (partnerColumn m pick s up c n) ∷ results rest s up (n + 1 + size below) c
 
   results-count : (fs : Forest Field) (s : Shape) (up n c : ℕ) → length (results fs s up n c) ≡ count fs
   results-count none s up n c = refl
@@ -151,7 +151,7 @@ module _ (m : Model) (pick : Pick) (cells : ℕ) where
 
   module _ (keeps : Premises m) (mine : Own m pick) where
     -- a struct's fields have its length, and side by side they are its parts
-    mate-length : (c n : ℕ) → IsPartner m pick cells struct c n → at m (orZero (pick c n)) .len ≡ at m c .len
+    mate-length : (c n : ℕ) → IsPartner m pick struct c n → at m (orZero (pick c n)) .len ≡ at m c .len
     mate-length c n k = keeps .level c (orZero (pick c n)) (k .0) (mine c n (orZero (pick c n)) (k .1))
 
     struct-even : (fs : Forest Field) (up n c taken t : ℕ) → checkFields m pick cells fs struct up n c taken ≡ Ok t → uneven (at m c .len) (results fs struct up n c) ≡ false
@@ -178,7 +178,7 @@ module _ (m : Model) (pick : Pick) (cells : ℕ) where
         (subst (λ (l : ℕ). Agrees (refuseIf (eqb l 0 && not (struct? m c)) (fault 14 c n) (taking m cells n c (at m c .len + l * at m c .len) vs) t) (ownHook m cells struct fs n c t) (columnOf m pick struct fs n c))
         (sym (results-count fs struct n (n + 1) c))
         (agrees-refuseIf (eqb (count fs) 0 && not (struct? m c)) (fault 14 c n) _ t _ _ (λ _.
-        agrees-as _ (takes cells n c (at m c .len + count fs * at m c .len) t) vs (columnOf m pick struct fs n c) same (agrees-taking m pick cells n c (at m c .len + count fs * at m c .len) t vs)))))
+        agrees-as _ (takes cells n c (at m c .len + count fs * at m c .len) t) vs (columnOf m pick struct fs n c) same (agrees-taking m cells n c (at m c .len + count fs * at m c .len) t vs)))))
       where
         rs : List (List Value)
         rs = results fs struct n (n + 1) c
@@ -221,7 +221,7 @@ module _ (m : Model) (pick : Pick) (cells : ℕ) where
         agrees-pass (pastEnd (at m c) (at m c .len) (at m child .len)) (fault 20 c n) _ t _ _ (none-past (at m c) (at m child .len) list-spans)
         (agrees-retest (g .required && nullInSpan (at m c) (at m c .len) inside) (g .required && nullInSpans m c child) (fault 16 c n) _ t _ _
         (ap (λ (b : Bool). g .required && b) (null-holds (g .shape) under (n + 1) c child list-spans)) (λ _.
-        agrees-as _ (takes cells n c (at m c .len) t) _ _ list-rows (agrees-taking m pick cells n c (at m c .len) t _)))
+        agrees-as _ (takes cells n c (at m c .len) t) _ _ list-rows (agrees-taking m cells n c (at m c .len) t _)))
 
     list-agrees : Agrees (close (converter m cells) list n c (results (tree g under none) list n (n + 1) c) t) (ownHook m cells list (tree g under none) n c t) (columnOf m pick list (tree g under none) n c)
     list-agrees =
@@ -320,7 +320,7 @@ module _ (m : Model) (pick : Pick) (cells : ℕ) where
           let vs : List Value = rowValues (at m c) (at m c .len) mapLiteral (entries (at m c) keys vals) in
           agrees-as _ (takes cells n c (at m c .len + 2 * sum (λ i. cond (null (at m c) i) 0 (length (kept same (spanSlots (at m c) i)))) (upto (at m c .len))) t) vs _ map-rows
           (subst (λ (k : ℕ). Agrees (taking m cells n c (at m c .len + pairCells (at m c) keys) vs t) (takes cells n c (at m c .len + k) t) vs) map-cells
-          (agrees-taking m pick cells n c (at m c .len + pairCells (at m c) keys) t vs))
+          (agrees-taking m cells n c (at m c .len + pairCells (at m c) keys) t vs))
 
     map-body : Agrees (close (converter m cells) map n c (keys ∷ (vals ∷ [])) t) (ownHook m cells map fields n c t) (columnOf m pick map fields n c)
     map-body =
@@ -335,15 +335,15 @@ module _ (m : Model) (pick : Pick) (cells : ℕ) where
         (ap (λ (b : Bool). g .required && b) (null-holds (g .shape) vb later c valued value-spans)) (λ _.
         map-takes whole))))))
 
-    key-target : partnerColumn m pick cells map n c (n + 1) ≡ keyed
+    key-target : partnerColumn m pick map n c (n + 1) ≡ keyed
     key-target = ap (λ (b : Bool). getD (childNumbers m c) (cond b 0 1) 0) (eq-eqb (n + 1) (n + 1) refl)
 
-    value-target : partnerColumn m pick cells map n c later ≡ valued
+    value-target : partnerColumn m pick map n c later ≡ valued
     value-target = ap (λ (b : Bool). getD (childNumbers m c) (cond b 0 1) 0) (ne-eqb later (n + 1) (λ h. omega arith))
 
     map-agrees : Agrees (close (converter m cells) map n c (results fields map n (n + 1) c) t) (ownHook m cells map fields n c t) (columnOf m pick map fields n c)
     map-agrees =
-        subst (λ (p : ℕ). Agrees (close (converter m cells) map n c (columnOf m pick (f .shape) kb (n + 1) p ∷ (columnOf m pick (g .shape) vb later (partnerColumn m pick cells map n c later) ∷ [])) t) (ownHook m cells map fields n c t) (columnOf m pick map fields n c))
+        subst (λ (p : ℕ). Agrees (close (converter m cells) map n c (columnOf m pick (f .shape) kb (n + 1) p ∷ (columnOf m pick (g .shape) vb later (partnerColumn m pick map n c later) ∷ [])) t) (ownHook m cells map fields n c t) (columnOf m pick map fields n c))
         (sym key-target)
         (subst (λ (q : ℕ). Agrees (close (converter m cells) map n c (keys ∷ (columnOf m pick (g .shape) vb later q ∷ [])) t) (ownHook m cells map fields n c t) (columnOf m pick map fields n c))
         (sym value-target) map-body)
@@ -364,7 +364,7 @@ module _ (m : Model) (pick : Pick) (cells : ℕ) where
   close-agrees keeps mine map (tree f kb (tree g vb (tree h over rest))) n c taken t ty seen ex fo e = absurd ex
 
   -- `field`: the nulls of a required field's result are those of its column, at the slots of the struct that holds it
-  module _ (keeps : Premises m) (mine : Own m pick) (f : Field) (below : Forest Field) (c n : ℕ) (kind : IsPartner m pick cells struct c n) where
+  module _ (keeps : Premises m) (mine : Own m pick) (f : Field) (below : Forest Field) (c n : ℕ) (kind : IsPartner m pick struct c n) where
     abbrev mate : ℕ
     mate = orZero (pick c n)
 
@@ -395,22 +395,15 @@ module _ (m : Model) (pick : Pick) (cells : ℕ) where
         (agrees-retest (f .required && nullRequired m cells mate mated) (f .required && anyOf (λ i. not (null (at m c) i) && null (at m mate) i) (upto (at m c .len))) (fault 15 mate n) _ t _ _
         (ap (λ (b : Bool). f .required && b) bare-same) (λ _. refl))
 
-  -- a field's partner is a column
-  pub target-found : Own m pick → (s : Shape) (up n c : ℕ) → IsPartner m pick cells s c n → missing m (partnerColumn m pick cells s up c n) ≡ false
-  target-found mine (prim k) up n c kind = absurd kind
-  target-found mine struct up n c kind = found-child m c (orZero (pick c n)) (mine c n (orZero (pick c n)) (kind .1))
-  target-found mine list up n c kind = found-kid m c 0
-  target-found mine map up n c kind = found-kid m c (cond (eqb n (up + 1)) 0 1)
-
   -- what follows a field's type: `field` for a struct's field, and nothing for an element, a key or a value
-  pub finish-agrees : Premises m → Own m pick → (s : Shape) (f : Field) (below : Forest Field) (up n c t : ℕ) → IsPartner m pick cells s c n → fieldAt m n ≡ Some (f, below)
-      → Agrees (finish (converter m cells) (role s up n) n (partnerColumn m pick cells s up c n) (columnOf m pick (f .shape) below n (partnerColumn m pick cells s up c n)) t)
-      (fieldHook m s f n c (partnerColumn m pick cells s up c n) t) (columnOf m pick (f .shape) below n (partnerColumn m pick cells s up c n))
+  pub finish-agrees : Premises m → Own m pick → (s : Shape) (f : Field) (below : Forest Field) (up n c t : ℕ) → IsPartner m pick s c n → fieldAt m n ≡ Some (f, below)
+      → Agrees (finish (converter m cells) (role s up n) n (partnerColumn m pick s up c n) (columnOf m pick (f .shape) below n (partnerColumn m pick s up c n)) t)
+      (fieldHook m s f n c (partnerColumn m pick s up c n) t) (columnOf m pick (f .shape) below n (partnerColumn m pick s up c n))
   finish-agrees keeps mine (prim k) f below up n c t kind e = absurd kind
   finish-agrees keeps mine struct f below up n c t kind e = field-agrees keeps mine f below c n kind t e
   finish-agrees keeps mine list f below up n c t kind e = refl
   finish-agrees keeps mine map f below up n c t kind e = go (eqb n (up + 1))
     where
-      go : (b : Bool) → finish (converter m cells) (cond b mapKey mapValue) n (partnerColumn m pick cells map up c n) (columnOf m pick (f .shape) below n (partnerColumn m pick cells map up c n)) t ≡ (Ok (columnOf m pick (f .shape) below n (partnerColumn m pick cells map up c n)), t)
+      go : (b : Bool) → finish (converter m cells) (cond b mapKey mapValue) n (partnerColumn m pick map up c n) (columnOf m pick (f .shape) below n (partnerColumn m pick map up c n)) t ≡ (Ok (columnOf m pick (f .shape) below n (partnerColumn m pick map up c n)), t)
       go true = refl
       go false = refl

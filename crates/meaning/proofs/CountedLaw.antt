@@ -21,8 +21,7 @@ use Rattle.meaning.specs.Table.{hasRoom, Table, added, Answer, addReaches}
 use Rattle.meaning.specs.Walk.{Step, ret, bind, Role, structField, listElement, mapKey, mapValue, role, fieldAt, missing, close, finish, walk, bindResult, refuseIf}
 use Rattle.meaning.proofs.Premises.{Exactly, Formed}
 use Rattle.meaning.specs.Counter.{counter, Counted-law, countReach, countReachBy, computeWalk}
-use Rattle.meaning.proofs.AcceptedSteps.{partner-of}
-use Rattle.meaning.proofs.ConverterSteps.{target-found}
+use Rattle.meaning.proofs.AcceptedSteps.{column-found, partner-of}
 use Rattle.meaning.proofs.KeepsPremises.{keeps-formed}
 use Rattle.meaning.proofs.FieldPlaces.{Placed, placed-all, placed-here, placed-below, placed-rest}
 
@@ -147,7 +146,7 @@ carry-ext A B e (Err f, t) = refl
 module _ (m : Model) (pick : Pick) (mine : Own m pick) where
   -- a partner is a column
   partner-found : (s : Shape) (up c n p : ℕ) → partner m pick s up c n ≡ Ok p → missing m p ≡ false
-  partner-found s up c n p e = let k = partner-of m pick 0 s up c n p e in ap (missing m) (k .1) ∙ target-found m pick 0 mine s up n c (k .0)
+  partner-found s up c n p e = let k = partner-of m pick s up c n p e in ap (missing m) (k .1) ∙ column-found m pick mine s up n c (k .0)
 
   -- what a field finds, one part after another
   field-then : (F G : Found) (f : Field) (n p : ℕ) (sh : ℕ → Bool) (t : Table)

@@ -5,12 +5,15 @@ use Prim.Native.Nat.{ℕ}
 use lib.Chars.{codes}
 use Rattle.meaning.specs.Picks.{byId}
 use Rattle.meaning.specs.Print.{printed}
-use Rattle.meaning.proofs.CaseFiles.{file0, file1, file2, file3, file4, file5, file6, file7, file8, file9, file10, file11, file12, file13, file14, file15, file16, file17, file18, file19, file20, file21, file22, file23, file24, file25, file26, file27, file28, file29, file30, file31, file32, file33, file34, file35, file36, file37, file38, file39, file40, file41, file42, file43, file44, file45, file46, file47, file48, file49, file50, file51, file52, file53, file54, file55, file56, file57, file58, file59, file60, file61, file62, file63, file64, file65, file66, file67, file68, file69, file70, file71, file72, file73, file74, file75, file76, file77, file78, file79, file80, file81, file82, file83, file84, file85, file86, file87, file88, file89, file90, file91, file92, file93, file94, file95, file96, file97, file98, file99, file100, file101, file102, file103, file104, file105, file106, file107, file108, file109, file110, file111, file112, file113, file114, file115, file116, file117, file118, file119, file120, file121, file122, file123, file124, file125, file126, file127, file128, file129, file130, file131, file132, file133, file134, file135, file136, file137, file138, file139, file140, file141, file142, file143, file144, file145, file146, file147, file148, file149, file150, file151, file152, file153, file154, file155}
+use Rattle.meaning.proofs.CaseFiles.{twoDoubles, file0, file1, file2, file3, file4, file5, file6, file7, file8, file9, file10, file11, file12, file13, file14, file15, file16, file17, file18, file19, file20, file21, file22, file23, file24, file25, file26, file27, file28, file29, file30, file31, file32, file33, file34, file35, file36, file37, file38, file39, file40, file41, file42, file43, file44, file45, file46, file47, file48, file49, file50, file51, file52, file53, file54, file55, file56, file57, file58, file59, file60, file61, file62, file63, file64, file65, file66, file67, file68, file69, file70, file71, file72, file73, file74, file75, file76, file77, file78, file79, file80, file81, file82, file83, file84, file85, file86, file87, file88, file89, file90, file91, file92, file93, file94, file95, file96, file97, file98, file99, file100, file101, file102, file103, file104, file105, file106, file107, file108, file109, file110, file111, file112, file113, file114, file115, file116, file117, file118, file119, file120, file121, file122, file123, file124, file125, file126, file127, file128, file129, file130, file131, file132, file133, file134, file135, file136, file137, file138, file139, file140, file141, file142, file143, file144, file145, file146, file147, file148, file149, file150, file151, file152, file153, file154, file155}
 
 -- lines, each with its end
 abbrev lines : List (List ℕ) → List ℕ
 lines [] = []
 lines (l ∷ ls) = l ++ (10 ∷ lines ls)
+
+two-doubles : printed byId twoDoubles ≡ lines (codes "rows 2" ∷ codes "row 0 {7ff8000000000000}" ∷ codes "row 1 {null}" ∷ codes "nan 4 1" ∷ [])
+two-doubles = refl
 
 case0 : printed byId file0 ≡ lines (codes "rows 8" ∷ codes "row 0 {-1,-1,1}" ∷ codes "row 1 {1,2143289344,9223372036854775807}" ∷ codes "row 2 {-75,2143289344,0}" ∷ codes "row 3 {-9223372036854775808,1,61}" ∷ codes "row 4 {2143289344,2143289344,-1}" ∷ codes "row 5 {-1,-9223372036854775808,2143289344}" ∷ codes "row 6 {-1,1,-1}" ∷ codes "row 7 {2143289344,1,0}" ∷ [])
 case0 = refl

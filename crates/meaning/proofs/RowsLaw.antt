@@ -76,7 +76,7 @@ module _ (c : Call) (id : ℤ) where
     walked : Good m id (reached m (c .pick)) (size (m .fields)) (inParts m (c .pick) id (m .fields) struct 1 0 (λ i. ltb i (m .rows)))
     walked =
         let k = keeps-premises m (c .keeps) in
-        let a = andThen-ok m (c .pick) cells (checkFields m (c .pick) cells (m .fields) struct 0 1 0 0) _ taken e in
+        let a = andThen-ok (checkFields m (c .pick) cells (m .fields) struct 0 1 0 0) _ taken e in
         conserves m (c .pick) id cells k (c .own) (m .fields) struct 0 1 0 (λ i. ltb i (m .rows)) 0 (a .0) tt (k .formed) tt (a .1)
 
     few : length ours ≤ 256

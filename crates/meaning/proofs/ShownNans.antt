@@ -260,10 +260,10 @@ start list n = tt
 start map n = refl
 
 module _ (m : Model) (pick : Pick) (id : ℤ) (cells : ℕ) (keeps : Premises m) (mine : Own m pick) where
-  key-column : (up c n : ℕ) → n ≡ up + 1 → partnerColumn m pick cells map up c n ≡ getD (childNumbers m c) 0 0
+  key-column : (up c n : ℕ) → n ≡ up + 1 → partnerColumn m pick map up c n ≡ getD (childNumbers m c) 0 0
   key-column up c n e = ap (λ (b : Bool). getD (childNumbers m c) (cond b 0 1) 0) (eq-eqb n (up + 1) e)
 
-  value-column : (up c n k : ℕ) → n ≡ up + 1 → partnerColumn m pick cells map up c (n + 1 + k) ≡ getD (childNumbers m c) 1 0
+  value-column : (up c n k : ℕ) → n ≡ up + 1 → partnerColumn m pick map up c (n + 1 + k) ≡ getD (childNumbers m c) 1 0
   value-column up c n k e = ap (λ (b : Bool). getD (childNumbers m c) (cond b 0 1) 0) (ne-eqb (n + 1 + k) (up + 1) (λ h. omega arith))
 
   -- what is below a type at column c: no refusal, at most as many reaches as fields, and the shown NaNs are those of the parts

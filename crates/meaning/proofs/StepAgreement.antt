@@ -10,7 +10,7 @@ use Rattle.std.specs.declared.option.Option.the-variants.{Some}
 use Rattle.std.specs.declared.result.Result.{Result}
 use Rattle.std.specs.declared.result.Result.the-variants.{Ok, Err}
 use Rattle.meaning.specs.Model.{Model}
-use Rattle.meaning.specs.Access.{Pick, StepFault, fault}
+use Rattle.meaning.specs.Access.{StepFault, fault}
 use Rattle.meaning.specs.Converts.{takes, andThen}
 use Rattle.meaning.specs.Walk.{Step, ret, missing, bindResult, refuseIf, orRefuse}
 use Rattle.meaning.specs.Literals.{Value}
@@ -46,30 +46,29 @@ agrees-sought m o x n c k s r v h i a = agrees-orRefuse o x (fault 9 c n) (λ x.
 pub agrees-as : {X : Type 0} (x : Result X StepFault × ℕ) (r : Result ℕ StepFault) (v w : X) → v ≡ w → Agrees x r v → Agrees x r w
 agrees-as x r v w e a = subst (λ u. Agrees x r u) e a
 
-module _ (m : Model) (pick : Pick) (cells : ℕ) where
-  -- cells that fit or do not
-  pub agrees-taking : (n c more taken : ℕ) (v : List Value) → Agrees (taking m cells n c more v taken) (takes cells n c more taken) v
-  agrees-taking n c more taken v = go (leb (taken + more) cells)
-    where
-      go : (b : Bool) → Agrees (cond b (Ok v, taken + more) (Err (fault 21 c n), taken)) (cond b (Ok (taken + more)) (Err (fault 21 c n))) v
-      go true = refl
-      go false = refl
+-- cells that fit or do not
+pub agrees-taking : (m : Model) (cells n c more taken : ℕ) (v : List Value) → Agrees (taking m cells n c more v taken) (takes cells n c more taken) v
+agrees-taking m cells n c more taken v = go (leb (taken + more) cells)
+  where
+    go : (b : Bool) → Agrees (cond b (Ok v, taken + more) (Err (fault 21 c n), taken)) (cond b (Ok (taken + more)) (Err (fault 21 c n))) v
+    go true = refl
+    go false = refl
 
-  -- one step after another
-  refused-then : {X Y : Type 0} (x : Result X StepFault × ℕ) (k : X → Step ℕ Y) (e : StepFault) → x .0 ≡ Err e → bindResult k x .0 ≡ Err e
-  refused-then (Ok a, s) k e h = absurd (let z : _≡_ {A = ℕ} 0 1 = cc in omega arith)
-  refused-then (Err f, s) k e h = cc
+-- one step after another
+refused-then : {X Y : Type 0} (x : Result X StepFault × ℕ) (k : X → Step ℕ Y) (e : StepFault) → x .0 ≡ Err e → bindResult k x .0 ≡ Err e
+refused-then (Ok a, s) k e h = absurd (let z : _≡_ {A = ℕ} 0 1 = cc in omega arith)
+refused-then (Err f, s) k e h = cc
 
-  pub agrees-then : {X Y : Type 0} (x : Result X StepFault × ℕ) (r : Result ℕ StepFault) (v : X) (k : X → Step ℕ Y) (f : ℕ → Result ℕ StepFault) (w : Y)
-      → Agrees x r v → ((t : ℕ) → r ≡ Ok t → Agrees (k v t) (f t) w) → Agrees (bindResult k x) (andThen r f) w
-  agrees-then x (Ok t) v k f w a h = subst (λ y. Agrees (bindResult k y) (f t) w) (sym a) (h t refl)
-  agrees-then x (Err e) v k f w a h = refused-then x k e a
+pub agrees-then : {X Y : Type 0} (x : Result X StepFault × ℕ) (r : Result ℕ StepFault) (v : X) (k : X → Step ℕ Y) (f : ℕ → Result ℕ StepFault) (w : Y)
+    → Agrees x r v → ((t : ℕ) → r ≡ Ok t → Agrees (k v t) (f t) w) → Agrees (bindResult k x) (andThen r f) w
+agrees-then x (Ok t) v k f w a h = subst (λ y. Agrees (bindResult k y) (f t) w) (sym a) (h t refl)
+agrees-then x (Err e) v k f w a h = refused-then x k e a
 
-  pub andThen-andThen : (r : Result ℕ StepFault) (f g : ℕ → Result ℕ StepFault) → andThen (andThen r f) g ≡ andThen r (λ t. andThen (f t) g)
-  andThen-andThen (Ok t) f g = refl
-  andThen-andThen (Err e) f g = refl
+pub andThen-andThen : (r : Result ℕ StepFault) (f g : ℕ → Result ℕ StepFault) → andThen (andThen r f) g ≡ andThen r (λ t. andThen (f t) g)
+andThen-andThen (Ok t) f g = refl
+andThen-andThen (Err e) f g = refl
 
-  -- a value in front of others
-  pub agrees-push : {X : Type 0} (x : Result (List X) StepFault × ℕ) (r : Result ℕ StepFault) (v : X) (vs : List X) → Agrees x r vs → Agrees (bindResult (λ ts. ret (v ∷ ts)) x) r (v ∷ vs)
-  agrees-push x (Ok t) v vs a = ap (λ y. bindResult (λ ts. ret (v ∷ ts)) y) a
-  agrees-push x (Err e) v vs a = refused-then x (λ ts. ret (v ∷ ts)) e a
+-- a value in front of others
+pub agrees-push : {X : Type 0} (x : Result (List X) StepFault × ℕ) (r : Result ℕ StepFault) (v : X) (vs : List X) → Agrees x r vs → Agrees (bindResult (λ ts. ret (v ∷ ts)) x) r (v ∷ vs)
+agrees-push x (Ok t) v vs a = ap (λ y. bindResult (λ ts. ret (v ∷ ts)) y) a
+agrees-push x (Err e) v vs a = refused-then x (λ ts. ret (v ∷ ts)) e a

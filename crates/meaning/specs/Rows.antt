@@ -4,7 +4,7 @@ use mathlib.Core.Bool.{Bool, cond}
 use Prim.Native.Nat.{ℕ, _+_}
 use lib.ListN.{getD}
 use Rattle.meaning.specs.Forest.{Forest, none, tree, size, beside}
-use Rattle.meaning.specs.Model.{Model, Field, Shape, prim, struct, list, map, at}
+use Rattle.meaning.specs.Model.{Model, Column, Field, Shape, prim, struct, list, map, at}
 use Rattle.meaning.specs.Lists.{upto, anyOf, orZero}
 use Rattle.meaning.specs.Slots.{null, spanSlots}
 use Rattle.meaning.specs.Access.{Pick, childNumbers}
@@ -29,6 +29,10 @@ abbrev pub joined : {X : Type 0} → (X → Values) → List X → Values
 joined f [] = none
 joined f (x ∷ xs) = beside (f x) (joined f xs)
 
+-- the value of slot i of a column, over these parts unless the slot is null; and the values after it
+abbrev pub valueTree : Shape → Column → ℕ → Values → Values → Values
+valueTree s x i below rest = tree (literalAt s x i) (cond (null x i) none below) rest
+
 module _ (m : Model) (pick : Pick) where
   -- what stands below the value of slot i of column c, for a type of this shape whose fields are these, the first having number n:
   -- a struct's fields at the columns that the pick names, the elements of a list's span, the kept pairs of a map's
@@ -37,15 +41,16 @@ module _ (m : Model) (pick : Pick) where
   parts (tree f below rest) (prim p) n c i = none
   parts (tree f below rest) struct n c i =
       let p : ℕ = orZero (pick c n) in
-      tree (literalAt (f .shape) (at m p) i) (cond (null (at m p) i) none (parts below (f .shape) (n + 1) p i)) (parts rest struct (n + 1 + size below) c i)
+      valueTree (f .shape) (at m p) i (parts below (f .shape) (n + 1) p i) (parts rest struct (n + 1 + size below) c i)
   parts (tree f below rest) list n c i =
       let p : ℕ = getD (childNumbers m c) 0 0 in
-      joined (λ j. tree (literalAt (f .shape) (at m p) j) (cond (null (at m p) j) none (parts below (f .shape) (n + 1) p j)) none) (spanSlots (at m c) i)
+      joined (λ j. valueTree (f .shape) (at m p) j (parts below (f .shape) (n + 1) p j) none) (spanSlots (at m c) i)
   parts (tree f below none) map n c i = none
   parts (tree f below (tree g under rest)) map n c i =
       let p : ℕ = getD (childNumbers m c) 0 0 in
       let q : ℕ = getD (childNumbers m c) 1 0 in
-      joined (λ (kv : ℕ × ℕ). tree (literalAt (f .shape) (at m p) (kv .0)) none (tree (literalAt (g .shape) (at m q) (kv .1)) (cond (null (at m q) (kv .1)) none (parts under (g .shape) (n + 1 + size below + 1) q (kv .1))) none)) (kept (sameBy (f .shape) (at m p)) (spanSlots (at m c) i))
+      joined (λ (kv : ℕ × ℕ). tree (literalAt (f .shape) (at m p) (kv .0)) none (valueTree (g .shape) (at m q) (kv .1) (parts under (g .shape) (n + 1 + size below + 1) q (kv .1)) none))
+      (kept (sameBy (f .shape) (at m p)) (spanSlots (at m c) i))
 
   -- row i: a struct of the schema's fields
   abbrev pub row : ℕ → Values
