@@ -6,7 +6,6 @@ use mathlib.Core.Logic.{⊎-elim}
 use Prim.Native.Nat.{ℕ, _+_}
 use native.Mathlib.Omega.{arith}
 use lib.Dec.{eqb}
-use lib.ListN.{getD}
 use Rattle.std.specs.declared.option.Option.{Option}
 use Rattle.std.specs.declared.option.Option.the-variants.{Some, None}
 use Rattle.std.specs.declared.result.Result.{Result}
@@ -16,7 +15,7 @@ use Rattle.meaning.specs.Forest.{Forest, none, tree, size}
 use Rattle.meaning.specs.Model.{Model, Column, Field, Shape, prim, struct, list, map, Primitive, boolean, int, long, float, double, date, time, timestamp, timestamptz, timestampNs, timestamptzNs, string, uuid, fixed, binary, Code, at}
 use Rattle.meaning.specs.Slots.{null, nan, nanBy}
 use Rattle.meaning.specs.Codes.{codeNumber, codeDetail, isStruct, isList, isMap, struct?, list?, map?}
-use Rattle.meaning.specs.Access.{Pick, Own, StepFault, fault, partner, orRefused, childNumbers}
+use Rattle.meaning.specs.Access.{childAt, Pick, Own, StepFault, fault, partner, orRefused}
 use Rattle.meaning.specs.Lists.{orZero}
 use Rattle.meaning.specs.Literals.{nullLiteral, literalBy, literalAt}
 use Rattle.meaning.specs.Walk.{missing}
@@ -95,8 +94,8 @@ module _ (m : Model) (pick : Pick) where
   abbrev pub partnerColumn : Shape → ℕ → ℕ → ℕ → ℕ
   partnerColumn (prim p) up c n = 0
   partnerColumn struct up c n = orZero (pick c n)
-  partnerColumn list up c n = getD (childNumbers m c) 0 0
-  partnerColumn map up c n = getD (childNumbers m c) (cond (eqb n (up + 1)) 0 1) 0
+  partnerColumn list up c n = childAt m c 0
+  partnerColumn map up c n = childAt m c (cond (eqb n (up + 1)) 0 1)
 
   -- column c has a partner for field n
   abbrev pub IsPartner : Shape → ℕ → ℕ → Type 0
@@ -112,8 +111,8 @@ module _ (m : Model) (pick : Pick) where
       let k : pick c n ≡ Some p = ok-some (pick c n) (fault 11 c n) p (h .1) in
       ((h .0, k ∙ ap (λ (o : Option ℕ). Some (orZero o)) (sym k)), sym (ap orZero k))
   partner-of list up c n p e =
-      let h : (list? m c ≡ true) × (Ok (getD (childNumbers m c) 0 0) ≡ Ok p) = ok-test (list? m c) (Ok (getD (childNumbers m c) 0 0)) (fault 12 c up) p e in
-      (h .0, sym (ok-is (getD (childNumbers m c) 0 0) p (h .1)))
+      let h : (list? m c ≡ true) × (Ok (childAt m c 0) ≡ Ok p) = ok-test (list? m c) (Ok (childAt m c 0)) (fault 12 c up) p e in
+      (h .0, sym (ok-is (childAt m c 0) p (h .1)))
   partner-of map up c n p e =
       let h : (map? m c ≡ true) × (Ok (partnerColumn map up c n) ≡ Ok p) = ok-test (map? m c) (Ok (partnerColumn map up c n)) (fault 13 c up) p e in
       (h .0, sym (ok-is (partnerColumn map up c n) p (h .1)))

@@ -5,7 +5,7 @@ use mathlib.Core.Bool.{Bool, true, false, cond, not, _&&_}
 use Prim.Native.Nat.{ℕ, _+_, _-_, _*_, _<_}
 use native.Mathlib.Omega.{arith}
 use lib.Dec.{eqb, ltb}
-use lib.ListN.{length, getD}
+use lib.ListN.{length}
 use Rattle.std.specs.declared.option.Option.the-variants.{Some}
 use Rattle.std.specs.declared.result.Result.the-variants.{Ok}
 use Rattle.std.proofs.shelf.Tests.{eq-eqb, ne-eqb, le-ltb, cond-true, not-from-true}
@@ -14,7 +14,7 @@ use Rattle.meaning.specs.Model.{Model, Column, Field, Shape, prim, struct, lis
 use Rattle.meaning.specs.Lists.{upto, anyOf, sum, orZero}
 use Rattle.meaning.specs.Slots.{null, span, spanSlots}
 use Rattle.meaning.specs.Codes.{struct?, list?, map?}
-use Rattle.meaning.specs.Access.{Pick, Own, fault, childNumbers}
+use Rattle.meaning.specs.Access.{childAt, Pick, Own, fault}
 use Rattle.meaning.specs.Literals.{nullLiteral, structLiteral, listLiteral, mapLiteral, Values, primitiveLiteral, literalBy, literalAt, sameBy, Value, isNullLiteral, sameLiteral, putBefore}
 use Rattle.meaning.specs.Rows.{joined, kept, parts}
 use Rattle.meaning.specs.Converts.{accepts, takes, fieldHook, nullInSpans, ownHook, checkFields}
@@ -193,7 +193,7 @@ module _ (m : Model) (pick : Pick) (cells : ℕ) where
   -- a list, whose elements are what its spans cut out of the child's values
   module _ (keeps : Premises m) (g : Field) (under : Forest Field) (n c t : ℕ) (ty : typeAt m n ≡ Some (list, tree g under none)) (seen : missing m c ≡ false) (kind : list? m c ≡ true) where
     abbrev child : ℕ
-    child = getD (childNumbers m c) 0 0
+    child = childAt m c 0
 
     abbrev inside : List Value
     inside = columnOf m pick (g .shape) under (n + 1) child
@@ -237,10 +237,10 @@ module _ (m : Model) (pick : Pick) (cells : ℕ) where
   module _ (keeps : Premises m) (f g : Field) (kb vb : Forest Field) (n c t : ℕ) (ty : typeAt m n ≡ Some (map, tree f kb (tree g vb none))) (seen : missing m c ≡ false) (kind : map? m c ≡ true)
       (plain : Plain (f .shape)) (bare′ : Exactly (f .shape) kb) where
     abbrev keyed : ℕ
-    keyed = getD (childNumbers m c) 0 0
+    keyed = childAt m c 0
 
     abbrev valued : ℕ
-    valued = getD (childNumbers m c) 1 0
+    valued = childAt m c 1
 
     abbrev later : ℕ
     later = n + 1 + 1 + size kb
@@ -336,10 +336,10 @@ module _ (m : Model) (pick : Pick) (cells : ℕ) where
         map-takes whole))))))
 
     key-target : partnerColumn m pick map n c (n + 1) ≡ keyed
-    key-target = ap (λ (b : Bool). getD (childNumbers m c) (cond b 0 1) 0) (eq-eqb (n + 1) (n + 1) refl)
+    key-target = ap (λ (b : Bool). childAt m c (cond b 0 1)) (eq-eqb (n + 1) (n + 1) refl)
 
     value-target : partnerColumn m pick map n c later ≡ valued
-    value-target = ap (λ (b : Bool). getD (childNumbers m c) (cond b 0 1) 0) (ne-eqb later (n + 1) (λ h. omega arith))
+    value-target = ap (λ (b : Bool). childAt m c (cond b 0 1)) (ne-eqb later (n + 1) (λ h. omega arith))
 
     map-agrees : Agrees (close (converter m cells) map n c (results fields map n (n + 1) c) t) (ownHook m cells map fields n c t) (columnOf m pick map fields n c)
     map-agrees =

@@ -13,7 +13,7 @@ use Rattle.std.proofs.shelf.Tests.{eqb-true, eq-eqb, ne-eqb, lt-ltb, le-ltb, co
 use Rattle.meaning.specs.Forest.{Forest, none, tree, size, numbers, find}
 use Rattle.meaning.specs.Model.{Model, Field, Column, below}
 use Rattle.meaning.specs.Lists.{among}
-use Rattle.meaning.specs.Access.{childNumbers}
+use Rattle.meaning.specs.Access.{childAt, childNumbers}
 use Rattle.meaning.specs.Walk.{fieldAt, typeOf, typeAt, missing, absentColumn}
 use Rattle.meaning.specs.Converter.{holderIn, holder}
 use Rattle.meaning.proofs.ColumnNumbers.{Tree, some-is, find-end, among-range, column-child}
@@ -106,5 +106,5 @@ getD-among [] i = inl refl
 getD-among (n ∷ ns) zero = inr (or-left (eqb n n) (among n ns) (eq-eqb n n refl))
 getD-among (n ∷ ns) (suc i) = ⊎-elim (λ e. inl e) (λ e. inr (or-right (eqb (getD ns i 0) n) (among (getD ns i 0) ns) e)) (getD-among ns i)
 
-pub found-kid : (m : Model) (c i : ℕ) → missing m (getD (childNumbers m c) i 0) ≡ false
-found-kid m c i = ⊎-elim (λ e. ap (missing m) e) (λ e. found-child m c (getD (childNumbers m c) i 0) e) (getD-among (childNumbers m c) i)
+pub found-kid : (m : Model) (c i : ℕ) → missing m (childAt m c i) ≡ false
+found-kid m c i = ⊎-elim (λ e. ap (missing m) e) (λ e. found-child m c (childAt m c i) e) (getD-among (childNumbers m c) i)

@@ -13,7 +13,7 @@ use Rattle.meaning.specs.Forest.{Forest, none, tree, size, count, numbers, fin
 use Rattle.meaning.specs.Model.{Model, Field, Column, Shape, prim, struct, list, map, Code, bits, words, variable, fixedSizeBinary, structs, lists, largeLists, fixedSizeLists, maps, column, head, below, at}
 use Rattle.meaning.specs.Lists.{among}
 use Rattle.meaning.specs.Codes.{isStruct, isMap, struct?, map?}
-use Rattle.meaning.specs.Access.{childNumbers}
+use Rattle.meaning.specs.Access.{childAt, childNumbers}
 use Rattle.meaning.specs.Keeps.{Keeps, FieldsKeep, ColumnsKeep, Bytes, Lengths, Rising, Cuts, Within, Bodied, KeyFirst, Holds}
 use Rattle.meaning.proofs.Premises.{Exactly, Formed, Ascends, Cutting, Premises}
 use Rattle.meaning.proofs.ColumnNumbers.{Tree, find-after, find-here, find-length, column-below}
@@ -156,7 +156,7 @@ module _ (m : Model) (r : Keeps m) where
   cut-of c maps x (tree y ls none) p b = absurd (omega (arith, b .2))
   cut-of c maps x (tree y ls (tree z ks rest)) p b = subst (λ l. Ascends x l) (sym (first-len c x y ls (tree z ks rest) p)) (ascends 4 x (y .len) (b .0) (b .3 .0))
 
-  cutting : (c : ℕ) → Cutting (at m c .code) (at m c) (at m (getD (childNumbers m c) 0 0) .len)
+  cutting : (c : ℕ) → Cutting (at m c .code) (at m c) (at m (childAt m c 0) .len)
   cutting c = go (column m c) refl (well c)
     where
       go : (o : Option Tree) → column m c ≡ o → Well o → Cutting (head o .code) (head o) (at m (getD (numbers (c + 1) (below o)) 0 0) .len)
@@ -177,7 +177,7 @@ module _ (m : Model) (r : Keeps m) where
   pair-of c maps x (tree y ls none) e p b = absurd (omega (arith, b .2))
   pair-of c maps x (tree y ls (tree z ks rest)) e p b = second-len c x y z ls ks rest p ∙ (b .4 .1 .0 ∙ sym (first-len c x y ls (tree z ks rest) p))
 
-  paired : (c : ℕ) → map? m c ≡ true → at m (getD (childNumbers m c) 1 0) .len ≡ at m (getD (childNumbers m c) 0 0) .len
+  paired : (c : ℕ) → map? m c ≡ true → at m (childAt m c 1) .len ≡ at m (childAt m c 0) .len
   paired c e = go (column m c) refl (well c) e
     where
       go : (o : Option Tree) → column m c ≡ o → Well o → isMap (head o .code) ≡ true → at m (getD (numbers (c + 1) (below o)) 1 0) .len ≡ at m (getD (numbers (c + 1) (below o)) 0 0) .len

@@ -8,7 +8,7 @@ use Rattle.meaning.specs.Model.{Model, Column, Field, Shape, prim, struct, lis
 use Rattle.meaning.specs.Lists.{among}
 use Rattle.meaning.specs.Codes.{struct?, map?}
 use Rattle.meaning.specs.Keeps.{Bytes, Plain}
-use Rattle.meaning.specs.Access.{childNumbers}
+use Rattle.meaning.specs.Access.{childAt, childNumbers}
 
 -- a primitive type holds no field, a list type one, and a map type a key field of a primitive type and a value field
 abbrev pub Exactly : Shape → Forest Field → Type 0
@@ -55,7 +55,7 @@ pub record Premises (m : Model) : Type 0 where
   pub short : (c : ℕ) → at m c .len ≤ 65536
   -- a struct's children have its length
   pub level : (c k : ℕ) → struct? m c ≡ true → among k (childNumbers m c) ≡ true → at m k .len ≡ at m c .len
-  pub cutting : (c : ℕ) → Cutting (at m c .code) (at m c) (at m (getD (childNumbers m c) 0 0) .len)
+  pub cutting : (c : ℕ) → Cutting (at m c .code) (at m c) (at m (childAt m c 0) .len)
   -- a map's value column has its key column's length
-  pub paired : (c : ℕ) → map? m c ≡ true → at m (getD (childNumbers m c) 1 0) .len ≡ at m (getD (childNumbers m c) 0 0) .len
+  pub paired : (c : ℕ) → map? m c ≡ true → at m (childAt m c 1) .len ≡ at m (childAt m c 0) .len
   pub bytes : (c : ℕ) → Bytes (at m c .body)

@@ -6,7 +6,6 @@ use Prim.Native.Nat.{ℕ, _+_, _-_}
 use native.Mathlib.Nat.{add-assoc}
 use native.Mathlib.Omega.{arith}
 use lib.IntN.{ℤ}
-use lib.ListN.{getD}
 use Rattle.std.specs.declared.option.Option.the-variants.{None}
 use Rattle.std.specs.declared.result.Result.the-variants.{Ok}
 use Rattle.std.proofs.shelf.Tests.{eq-eqb, ne-eqb}
@@ -14,7 +13,7 @@ use Rattle.meaning.specs.Forest.{Forest, none, tree, size}
 use Rattle.meaning.specs.Model.{Model, Field, Shape, prim, struct, list, map, at}
 use Rattle.meaning.specs.Lists.{upto, from, anyOf, orZero, sum}
 use Rattle.meaning.specs.Slots.{null, nan, span, spanSlots}
-use Rattle.meaning.specs.Access.{Pick, Own, partner, childNumbers}
+use Rattle.meaning.specs.Access.{childAt, Pick, Own, partner}
 use Rattle.meaning.specs.Literals.{Literal, Values, literalAt, sameBy}
 use Rattle.meaning.specs.Rows.{kept, joined, parts}
 use Rattle.meaning.specs.Converts.{checkFields}
@@ -167,9 +166,9 @@ module _ (m : Model) (pick : Pick) (id : ℤ) where
   abbrev any? : ℕ → ℕ → ℕ → Bool
   any? a b j = true
 
-  module _ (f : Field) (below rest : Forest Field) (up n c : ℕ) (shown : ℕ → Bool) (e : Faithful f (getD (childNumbers m c) 0 0)) (k : Cut c (getD (childNumbers m c) 0 0)) where
+  module _ (f : Field) (below rest : Forest Field) (up n c : ℕ) (shown : ℕ → Bool) (e : Faithful f (childAt m c 0)) (k : Cut c (childAt m c 0)) where
     abbrev child : ℕ
-    child = getD (childNumbers m c) 0 0
+    child = childAt m c 0
 
     list-parts : (i : ℕ) → sum (worth f below n child) (spanSlots (at m c) i) ≡ nansIn id (tree f below rest) list (parts m pick (tree f below rest) list n c i)
     list-parts i =
@@ -196,10 +195,10 @@ module _ (m : Model) (pick : Pick) (id : ℤ) where
 
   module _ (f g : Field) (below under′ rest : Forest Field) (up n c : ℕ) (shown : ℕ → Bool) (plain : Plain (f .shape)) where
     abbrev keyed : ℕ
-    keyed = getD (childNumbers m c) 0 0
+    keyed = childAt m c 0
 
     abbrev valued : ℕ
-    valued = getD (childNumbers m c) 1 0
+    valued = childAt m c 1
 
     abbrev later : ℕ
     later = n + 1 + size below
@@ -260,11 +259,11 @@ start list n = tt
 start map n = refl
 
 module _ (m : Model) (pick : Pick) (id : ℤ) (cells : ℕ) (keeps : Premises m) (mine : Own m pick) where
-  key-column : (up c n : ℕ) → n ≡ up + 1 → partnerColumn m pick map up c n ≡ getD (childNumbers m c) 0 0
-  key-column up c n e = ap (λ (b : Bool). getD (childNumbers m c) (cond b 0 1) 0) (eq-eqb n (up + 1) e)
+  key-column : (up c n : ℕ) → n ≡ up + 1 → partnerColumn m pick map up c n ≡ childAt m c 0
+  key-column up c n e = ap (λ (b : Bool). childAt m c (cond b 0 1)) (eq-eqb n (up + 1) e)
 
-  value-column : (up c n k : ℕ) → n ≡ up + 1 → partnerColumn m pick map up c (n + 1 + k) ≡ getD (childNumbers m c) 1 0
-  value-column up c n k e = ap (λ (b : Bool). getD (childNumbers m c) (cond b 0 1) 0) (ne-eqb (n + 1 + k) (up + 1) (λ h. omega arith))
+  value-column : (up c n k : ℕ) → n ≡ up + 1 → partnerColumn m pick map up c (n + 1 + k) ≡ childAt m c 1
+  value-column up c n k e = ap (λ (b : Bool). childAt m c (cond b 0 1)) (ne-eqb (n + 1 + k) (up + 1) (λ h. omega arith))
 
   -- what is below a type at column c: no refusal, at most as many reaches as fields, and the shown NaNs are those of the parts
   pub conserves : (fs : Forest Field) (s : Shape) (up n c : ℕ) (shown : ℕ → Bool) (taken t : ℕ) → Start s up n → Formed fs → Exactly s fs → checkFields m pick cells fs s up n c taken ≡ Ok t
@@ -282,7 +281,7 @@ module _ (m : Model) (pick : Pick) (id : ℤ) (cells : ℕ) (keeps : Premises m)
       (conserves rest struct up (n + 1 + size below) c shown (st .1 .t₃) t tt (sh .2) tt (st .1 .after))
   conserves (tree f below rest) list up n c shown taken t b sh ho e =
       let st = step m pick cells f below rest list up n c taken t e in
-      let p : ℕ = getD (childNumbers m c) 0 0 in
+      let p : ℕ = childAt m c 0 in
       list-good m pick id f below rest up n c shown
       (literal-nan m pick cells (f .shape) below n p taken (st .1 .t₁) (st .1 .t₂) (sh .0) (st .1 .inner) (st .1 .mine))
       (list-cuts (at m c .code) (at m c) (at m p .len) (st .0) (keeps .cutting c))
@@ -290,8 +289,8 @@ module _ (m : Model) (pick : Pick) (id : ℤ) (cells : ℕ) (keeps : Premises m)
       (conserves below (f .shape) n (n + 1) p (shownWithin m c shown (any? m pick id)) taken (st .1 .t₁) (start (f .shape) n) (sh .1) (sh .0) (st .1 .inner))
   conserves (tree f below none) map up n c shown taken t b sh ho e = absurd ho
   conserves (tree f below (tree g under′ rest)) map up n c shown taken t b sh ho e =
-      let p : ℕ = getD (childNumbers m c) 0 0 in
-      let q : ℕ = getD (childNumbers m c) 1 0 in
+      let p : ℕ = childAt m c 0 in
+      let q : ℕ = childAt m c 1 in
       let v : ℕ = n + 1 + size below in
       let same : ℕ → ℕ → Bool = sameBy (f .shape) (at m p) in
       let st = step m pick cells f below (tree g under′ rest) map up n c taken t e in

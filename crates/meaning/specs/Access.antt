@@ -32,6 +32,10 @@ Pick = ℕ → ℕ → Option ℕ
 abbrev pub childNumbers : Model → ℕ → List ℕ
 childNumbers m c = numbers (c + 1) (children m c)
 
+-- the child at place i: a list's element column is at 0, a map's key column at 0 and its value column at 1
+abbrev pub childAt : Model → ℕ → ℕ → ℕ
+childAt m c i = getD (childNumbers m c) i 0
+
 -- a pick names only a column's own children
 abbrev pub Own : Model → Pick → Type 0
 Own m pick = (c f k : ℕ) → pick c f ≡ Some k → among k (childNumbers m c) ≡ true
@@ -47,5 +51,5 @@ module _ (m : Model) (pick : Pick) where
   abbrev pub partner : Shape → ℕ → ℕ → ℕ → Result ℕ StepFault
   partner (prim p) up c n = Err (fault 9 c n)
   partner struct up c n = cond (struct? m c) (orRefused (pick c n) (fault 11 c n)) (Err (fault 10 c n))
-  partner list up c n = cond (list? m c) (Ok (getD (childNumbers m c) 0 0)) (Err (fault 12 c up))
-  partner map up c n = cond (map? m c) (Ok (getD (childNumbers m c) (cond (eqb n (up + 1)) 0 1) 0)) (Err (fault 13 c up))
+  partner list up c n = cond (list? m c) (Ok (childAt m c 0)) (Err (fault 12 c up))
+  partner map up c n = cond (map? m c) (Ok (childAt m c (cond (eqb n (up + 1)) 0 1))) (Err (fault 13 c up))

@@ -2,7 +2,7 @@
 use mathlib.Core.Bool.{Bool, false, cond, not, _&&_, _||_}
 use Prim.Native.Nat.{ℕ, _+_, _*_}
 use lib.Dec.{leb, eqb}
-use lib.ListN.{length, getD}
+use lib.ListN.{length}
 use Rattle.std.specs.declared.option.Option.{Option}
 use Rattle.std.specs.declared.option.Option.the-variants.{Some, None}
 use Rattle.std.specs.declared.result.Result.{Result}
@@ -12,7 +12,7 @@ use Rattle.meaning.specs.Model.{Model, Field, Shape, prim, struct, list, map, 
 use Rattle.meaning.specs.Lists.{upto, anyOf, sum}
 use Rattle.meaning.specs.Codes.{codeNumber, codeDetail, struct?}
 use Rattle.meaning.specs.Slots.{null, spanSlots}
-use Rattle.meaning.specs.Access.{Pick, StepFault, fault, partner, childNumbers}
+use Rattle.meaning.specs.Access.{childAt, Pick, StepFault, fault, partner}
 use Rattle.meaning.specs.Literals.{sameBy}
 use Rattle.meaning.specs.Rows.{kept}
 
@@ -81,10 +81,10 @@ abbrev pub ownHook : Model → ℕ → Shape → Forest Field → ℕ → ℕ �
 ownHook m cells (prim p) below n c taken = cond (accepts p (at m c .code)) (takes cells n c (at m c .len) taken) (Err (fault 14 c n))
 ownHook m cells struct below n c taken =
     cond (eqb (count below) 0 && not (struct? m c)) (Err (fault 14 c n)) (takes cells n c (at m c .len + count below * at m c .len) taken)
-ownHook m cells list below n c taken = cond (firstRequired below && nullInSpans m c (getD (childNumbers m c) 0 0)) (Err (fault 16 c n)) (takes cells n c (at m c .len) taken)
+ownHook m cells list below n c taken = cond (firstRequired below && nullInSpans m c (childAt m c 0)) (Err (fault 16 c n)) (takes cells n c (at m c .len) taken)
 ownHook m cells map below n c taken =
-    let p : ℕ = getD (childNumbers m c) 0 0 in
-    let q : ℕ = getD (childNumbers m c) 1 0 in
+    let p : ℕ = childAt m c 0 in
+    let q : ℕ = childAt m c 1 in
     cond (nullInSpans m c p) (Err (fault 19 c n))
     (cond (firstRequired (afterFirst below) && nullInSpans m c q) (Err (fault 16 c n))
     (takes cells n c (at m c .len + 2 * sum (λ i. cond (null (at m c) i) 0 (length (kept (sameBy (firstShape below) (at m p)) (spanSlots (at m c) i)))) (upto (at m c .len))) taken))

@@ -2,12 +2,11 @@
 use mathlib.Core.List.{List, [], _∷_, _++_}
 use mathlib.Core.Bool.{Bool, cond}
 use Prim.Native.Nat.{ℕ, _+_}
-use lib.ListN.{getD}
 use Rattle.meaning.specs.Forest.{Forest, none, tree, size, beside}
 use Rattle.meaning.specs.Model.{Model, Column, Field, Shape, prim, struct, list, map, at}
 use Rattle.meaning.specs.Lists.{upto, anyOf, orZero}
 use Rattle.meaning.specs.Slots.{null, spanSlots}
-use Rattle.meaning.specs.Access.{Pick, childNumbers}
+use Rattle.meaning.specs.Access.{childAt, Pick}
 use Rattle.meaning.specs.Literals.{structLiteral, Values, literalAt, sameBy}
 
 -- the last of the slots js whose key is that of slot i, or i
@@ -43,12 +42,12 @@ module _ (m : Model) (pick : Pick) where
       let p : ℕ = orZero (pick c n) in
       valueTree (f .shape) (at m p) i (parts below (f .shape) (n + 1) p i) (parts rest struct (n + 1 + size below) c i)
   parts (tree f below rest) list n c i =
-      let p : ℕ = getD (childNumbers m c) 0 0 in
+      let p : ℕ = childAt m c 0 in
       joined (λ j. valueTree (f .shape) (at m p) j (parts below (f .shape) (n + 1) p j) none) (spanSlots (at m c) i)
   parts (tree f below none) map n c i = none
   parts (tree f below (tree g under rest)) map n c i =
-      let p : ℕ = getD (childNumbers m c) 0 0 in
-      let q : ℕ = getD (childNumbers m c) 1 0 in
+      let p : ℕ = childAt m c 0 in
+      let q : ℕ = childAt m c 1 in
       joined (λ (kv : ℕ × ℕ). tree (literalAt (f .shape) (at m p) (kv .0)) none (valueTree (g .shape) (at m q) (kv .1) (parts under (g .shape) (n + 1 + size below + 1) q (kv .1)) none))
       (kept (sameBy (f .shape) (at m p)) (spanSlots (at m c) i))
 
