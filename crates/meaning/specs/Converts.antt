@@ -76,7 +76,7 @@ abbrev pub nullInSpans : Model → ℕ → ℕ → Bool
 nullInSpans m c p = anyOf (λ i. not (null (at m c) i) && anyOf (λ j. null (at m p) j) (spanSlots (at m c) i)) (upto (at m c .len))
 
 -- what the hook of field n's own type refuses at column c, and the cells it takes:
--- a primitive one a slot; a struct of f fields one a row and f; a list one a row; a map one a row and two for each kept pair
+-- a primitive one a slot; a struct of f fields 1 + f a row; a list one a row; a map one a row and two for each kept pair
 abbrev pub ownHook : Model → ℕ → Shape → Forest Field → ℕ → ℕ → ℕ → Result ℕ StepFault
 ownHook m cells (prim p) below n c taken = cond (accepts p (at m c .code)) (takes cells n c (at m c .len) taken) (Err (fault 14 c n))
 ownHook m cells struct below n c taken =
