@@ -17,12 +17,12 @@ use Rattle.meaning.specs.Columns.{exact, meets}
 use Rattle.meaning.specs.File.{whole, ended, decode}
 use Rattle.meaning.specs.Encode.{numeral as numberBytes, fieldBytes, columnBytes, encode}
 use Rattle.meaning.specs.Keeps.{Bytes, Within, Keeps}
-use Rattle.meaning.proofs.Reading.{from, Reads, Came, reads-then, reads-give, parts, given, number-to, limited-to, byte-to, Item, item, number-from, limited-from, byte-from, item-then, item-same}
+use Rattle.meaning.proofs.Readers.{from, Reads, Came, reads-then, reads-give, parts, given, number-to, limited-to, byte-to, Item, item, number-from, limited-from, byte-from, item-then, item-same}
 use Rattle.meaning.specs.Accepts.{Accepts-law}
 use Rattle.meaning.proofs.FileBytes.{encode-bytes}
 use Rattle.meaning.proofs.FieldsRead.{count-size, fields-to, fields-from}
-use Rattle.meaning.proofs.ColumnsTo.{lengths-map, lengths-all, shorter, columns-to}
-use Rattle.meaning.proofs.ColumnsFrom.{columns-from}
+use Rattle.meaning.proofs.ColumnsReadBack.{lengths-map, lengths-all, shorter, columns-to}
+use Rattle.meaning.proofs.ColumnsWrittenAgain.{columns-from}
 
 -- the parts of a file, bracketed as they are read
 apart : (a b c d e : List ℕ) → (1 ∷ a) ++ b ++ c ++ d ++ e ≡ 1 ∷ (a ++ (b ++ (c ++ (d ++ (e ++ [])))))

@@ -18,7 +18,7 @@ use Rattle.meaning.specs.Columns.{Need, meets, Offsets, past, unless, lengthOf
 use Rattle.meaning.specs.Encode.{numeral as numberBytes, flag as flagBytes, fixedWidth, optional, columnCode, offsets as offsetBytes}
 use Rattle.meaning.specs.Keeps.{Bytes, Rising, Within, Optional}
 use Rattle.meaning.proofs.Widths.{width-length, width-back, width-again}
-use Rattle.meaning.proofs.Reading.{from, Reads, Came, Both, reads-then, reads-give, carried, parts, both, same-ok, refused-not, given, exactly-to, limited-to, byte-to, Item, item, exactly-from, limited-from, byte-from, item-then, item-same}
+use Rattle.meaning.proofs.Readers.{from, Reads, Came, Both, reads-then, reads-give, carried, parts, both, same-ok, refused-not, given, exactly-to, limited-to, byte-to, Item, item, exactly-from, limited-from, byte-from, item-then, item-same}
 use Rattle.meaning.proofs.FieldsRead.{each-below}
 
 -- offsets that were written are read back, each with the byte at which it stands

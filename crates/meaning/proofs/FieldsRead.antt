@@ -15,7 +15,7 @@ use Rattle.meaning.specs.Schema.{Kind, plain, sized, group, one, pair, decimal
 use Rattle.meaning.specs.Encode.{numeral as numberBytes, text as textBytes, flag as flagBytes, fixedWidth, unsigned, primitiveCode, shapeCode, fieldBytes}
 use Rattle.meaning.specs.Keeps.{levels, Bytes, Short, InRange, Sized, Plain, KeyFirst, Holds, FieldsKeep}
 use Rattle.meaning.proofs.Widths.{width-back, width-again, id-back, id-below, id-again}
-use Rattle.meaning.proofs.Reading.{Reads, Came, Both, reads-then, reads-give, parts, refused-not, given, exactly-to, number-to, limited-to, text-to, byte-to, flag-to, Item, item, exactly-from, number-from, limited-from, text-from, byte-from, flag-from, item-then, item-same}
+use Rattle.meaning.proofs.Readers.{Reads, Came, Both, reads-then, reads-give, parts, refused-not, given, exactly-to, number-to, limited-to, text-to, byte-to, flag-to, Item, item, exactly-from, number-from, limited-from, text-from, byte-from, flag-from, item-then, item-same}
 
 -- fields side by side are no more than fields in all
 pub count-size : {H : Type 0} (fs : Forest H) → count fs ≤ size fs

@@ -2,35 +2,33 @@
 use mathlib.Core.List.{List, [], _∷_, _++_}
 use mathlib.Core.Logic.{inl, inr}
 use mathlib.Core.Bool.{Bool, true, false}
-use Prim.Native.Nat.{ℕ, zero, suc, _/_}
+use Prim.Native.Nat.{ℕ, zero, suc, _/_, _<_}
 use native.Mathlib.Omega.{arith}
 use lib.Dec.{ltb}
 use lib.ListN.{length}
 use Rattle.std.specs.declared.option.Option.{Option}
 use Rattle.std.specs.declared.option.Option.the-variants.{Some, None}
 use Rattle.std.proofs.shelf.Tests.{cases-bool, ltb-true}
+use Rattle.std.proofs.shelf.Elements.{all-append}
 use Rattle.meaning.specs.Forest.{Forest, none, tree, count}
 use Rattle.meaning.specs.Model.{Model, Field, Column, Shape, prim, struct, list, map, Primitive, boolean, int, long, float, double, date, time, timestamp, timestamptz, timestampNs, timestamptzNs, string, uuid, fixed, binary, Code, bits, words, variable, fixedSizeBinary, structs, lists, largeLists, fixedSizeLists, maps, int32, int64, float32, float64, date32, time64, micros, nanos, utf8, largeUtf8, binaries, largeBinary}
-use Rattle.meaning.specs.Encode.{groups, numeral, fixedWidth, text, flag, unsigned, optional, primitiveCode, shapeCode, fieldBytes, columnCode, offsets, wideOffsets, bodyBytes, columnBytes, encode}
+use Rattle.meaning.specs.Columns.{offsetOf}
+use Rattle.meaning.specs.Encode.{groups, numeral, fixedWidth, text, flag, unsigned, optional, primitiveCode, shapeCode, fieldBytes, columnCode, offsets, bodyBytes, columnBytes, encode}
 use Rattle.meaning.specs.Keeps.{Bytes, Short, Optional, Bodied, Validity, FieldsKeep, ColumnsKeep, Keeps}
 use Rattle.meaning.proofs.Widths.{width-bytes}
 
-both : (xs ys : List ℕ) → Bytes xs → Bytes ys → Bytes (xs ++ ys)
-both [] ys p q = q
-both (x ∷ xs) ys p q = (p .0, both xs ys (p .1) q)
-
 four : (a b c d : List ℕ) → Bytes a → Bytes b → Bytes c → Bytes d → Bytes (a ++ b ++ c ++ d)
-four a b c d p q r s = both (a ++ b ++ c) d (both (a ++ b) c (both a b p q) r) s
+four a b c d p q r s = all-append (λ b. b < 256) (a ++ b ++ c) d (all-append (λ b. b < 256) (a ++ b) c (all-append (λ b. b < 256) a b p q) r) s
 
 five : (a b c d e : List ℕ) → Bytes a → Bytes b → Bytes c → Bytes d → Bytes e → Bytes (a ++ b ++ c ++ d ++ e)
-five a b c d e p q r s t = both (a ++ b ++ c ++ d) e (four a b c d p q r s) t
+five a b c d e p q r s t = all-append (λ b. b < 256) (a ++ b ++ c ++ d) e (four a b c d p q r s) t
 
 groups-bytes : (k n : ℕ) → Bytes (groups k n)
 groups-bytes zero n = tt
 groups-bytes (suc k) n = elim (cases-bool (ltb n 128)) [ inl s ↦ rw s (omega (arith, ltb-true n 128 s)) | inr s ↦ rw s (omega arith, groups-bytes k (n / 128)) ]
 
 text-bytes : (xs : List ℕ) → Bytes xs → Bytes (text xs)
-text-bytes xs y = both (numeral (length xs)) xs (groups-bytes 5 (length xs)) y
+text-bytes xs y = all-append (λ b. b < 256) (numeral (length xs)) xs (groups-bytes 5 (length xs)) y
 
 flag-bytes : (b : Bool) → Bytes (flag b)
 flag-bytes true = omega arith
@@ -70,7 +68,7 @@ fields-bytes (tree f below rest) k =
     let b = flag (f .required) in
     let c = text (f .name) in
     let d = shapeCode (f .shape) (count below) in
-    both (a ++ b ++ c ++ d ++ fieldBytes below) (fieldBytes rest)
+    all-append (λ b. b < 256) (a ++ b ++ c ++ d ++ fieldBytes below) (fieldBytes rest)
     (five a b c d (fieldBytes below) (width-bytes 4 (unsigned (f .id))) (flag-bytes (f .required)) (text-bytes (f .name) (k .1 .1))
     (shape-bytes (f .shape) (count below)) (fields-bytes below (k .3)))
     (fields-bytes rest (k .4))
@@ -98,13 +96,13 @@ code-bytes maps = omega arith
 
 offset-bytes : (w : ℕ) (os : List ℕ) → Bytes (offsets w os)
 offset-bytes w [] = tt
-offset-bytes w (o ∷ os) = both (fixedWidth w o) (offsets w os) (width-bytes w o) (offset-bytes w os)
+offset-bytes w (o ∷ os) = all-append (λ b. b < 256) (fixedWidth w o) (offsets w os) (width-bytes w o) (offset-bytes w os)
 
 body-bytes : (c : Code) (x : Column) (below : Forest Column) → Bodied c x below → Bytes (bodyBytes c x (count below))
 body-bytes bits x below p = p .1
 body-bytes (words w) x below p = p .1
 body-bytes (fixedSizeBinary w) x below p = p .2 .1
-body-bytes (variable t) x below p = both (offsets (wideOffsets t) (x .offsets)) (text (x .body)) (offset-bytes (wideOffsets t) (x .offsets))
+body-bytes (variable t) x below p = all-append (λ b. b < 256) (offsets (offsetOf t) (x .offsets)) (text (x .body)) (offset-bytes (offsetOf t) (x .offsets))
     (text-bytes (x .body) (p .2))
 body-bytes structs x below p = groups-bytes 5 (count below)
 body-bytes lists x below p = offset-bytes 4 (x .offsets)

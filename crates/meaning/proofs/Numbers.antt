@@ -2,7 +2,7 @@
 use mathlib.Core.Path.{_≡_, refl, sym, _∙_, ap}
 use mathlib.Core.List.{List, [], _∷_, _++_}
 use mathlib.Core.Logic.{inl, inr}
-use mathlib.Core.Bool.{false}
+use mathlib.Core.Bool.{true, false, cond, _&&_}
 use Prim.Native.Nat.{ℕ, suc, _+_, _-_, _*_, _/_, _%_, _^_, _≤_, _<_}
 use native.Mathlib.Omega.{arith}
 use lib.Dec.{ltb, leb, eqb}
@@ -19,35 +19,42 @@ same-value p q = λ i. value (p i) (q i)
 back₄ : (v n : ℕ) (rest : List ℕ) → 1 ≤ n → n < 16 → groups 1 4 v (written 1 n ++ rest) ≡ value (v + n * 268435456) (4 + length (written 1 n))
 back₄ v n rest l h = rw (lt-ltb n 128 (omega arith)) (rw (lt-leb 16 n h, lt-leb 128 n (omega arith), ne-eqb n 0 (λ e. omega arith)) refl)
 
-back₃ : (v n : ℕ) (rest : List ℕ) → 1 ≤ n → n < 2048 → groups 2 3 v (written 2 n ++ rest) ≡ value (v + n * 2097152) (3 + length (written 2 n))
-back₃ v n rest l h =
+-- how a group between the first and the fifth is read
+abbrev Middle : ℕ → ℕ → ℕ → Type 0
+Middle left k p = (v b : ℕ) (bs : List ℕ)
+    → groups (suc left) k v (b ∷ bs) ≡ cond (leb 128 b) (groups left (k + 1) (v + (b - 128) * p) bs) (cond (eqb b 0 && true) long (value (v + b * p) (k + 1)))
+
+abbrev Back : ℕ → ℕ → ℕ → ℕ → Type 0
+Back left k p high = (v n : ℕ) (rest : List ℕ) → 1 ≤ n → n < high → groups left k v (written left n ++ rest) ≡ value (v + n * p) (k + length (written left n))
+
+sum-groups : (v e d p : ℕ) → v + e * p + d * (128 * p) ≡ v + (e + 128 * d) * p
+sum-groups v e d p = omega arith
+
+split-group : (v n p : ℕ) → v + (n % 128 + 128 - 128) * p + n / 128 * (128 * p) ≡ v + n * p
+split-group v n p =
+    let low : n % 128 + 128 - 128 ≡ n % 128 = omega arith in
+    let all : n % 128 + 128 * (n / 128) ≡ n = omega arith in
+    ap (λ (e : ℕ). v + e * p + n / 128 * (128 * p)) low ∙ (sum-groups v (n % 128) (n / 128) p ∙ ap (λ (t : ℕ). v + t * p) all)
+
+back-middle : (left k p high : ℕ) → Middle left k p → Back left (k + 1) (128 * p) high → Back (suc left) k p (128 * high)
+back-middle left k p high m next v n rest l h =
     elim (cases-bool (ltb n 128)) [
-      | inl s ↦ rw s (rw (lt-leb 128 n (ltb-true n 128 s), ne-eqb n 0 (λ e. omega arith)))
+      | inl s ↦ rw s (m v n rest ∙ rw (lt-leb 128 n (ltb-true n 128 s), ne-eqb n 0 (λ e. omega arith)) refl)
       | inr s ↦
           let q : 128 ≤ n = ltb-false n 128 s in
-          rw s (rw (le-leb 128 (n % 128 + 128) (omega arith))
-          (back₄ (v + (n % 128 + 128 - 128) * 2097152) (n / 128) rest (omega arith) (omega arith) ∙ same-value (omega arith) (omega arith)))
+          rw s (m v (n % 128 + 128) (written left (n / 128) ++ rest)
+          ∙ rw (le-leb 128 (n % 128 + 128) (omega arith))
+          (next (v + (n % 128 + 128 - 128) * p) (n / 128) rest (omega arith) (omega arith) ∙ same-value (split-group v n p) (omega arith)))
     ]
 
-back₂ : (v n : ℕ) (rest : List ℕ) → 1 ≤ n → n < 262144 → groups 3 2 v (written 3 n ++ rest) ≡ value (v + n * 16384) (2 + length (written 3 n))
-back₂ v n rest l h =
-    elim (cases-bool (ltb n 128)) [
-      | inl s ↦ rw s (rw (lt-leb 128 n (ltb-true n 128 s), ne-eqb n 0 (λ e. omega arith)))
-      | inr s ↦
-          let q : 128 ≤ n = ltb-false n 128 s in
-          rw s (rw (le-leb 128 (n % 128 + 128) (omega arith))
-          (back₃ (v + (n % 128 + 128 - 128) * 16384) (n / 128) rest (omega arith) (omega arith) ∙ same-value (omega arith) (omega arith)))
-    ]
+back₃ : Back 2 3 2097152 2048
+back₃ = back-middle 1 3 2097152 16 (λ v b bs. refl) back₄
 
-back₁ : (v n : ℕ) (rest : List ℕ) → 1 ≤ n → n < 33554432 → groups 4 1 v (written 4 n ++ rest) ≡ value (v + n * 128) (1 + length (written 4 n))
-back₁ v n rest l h =
-    elim (cases-bool (ltb n 128)) [
-      | inl s ↦ rw s (rw (lt-leb 128 n (ltb-true n 128 s), ne-eqb n 0 (λ e. omega arith)))
-      | inr s ↦
-          let q : 128 ≤ n = ltb-false n 128 s in
-          rw s (rw (le-leb 128 (n % 128 + 128) (omega arith))
-          (back₂ (v + (n % 128 + 128 - 128) * 128) (n / 128) rest (omega arith) (omega arith) ∙ same-value (omega arith) (omega arith)))
-    ]
+back₂ : Back 3 2 16384 262144
+back₂ = back-middle 2 2 16384 2048 (λ v b bs. refl) back₃
+
+back₁ : Back 4 1 128 33554432
+back₁ = back-middle 3 1 128 262144 (λ v b bs. refl) back₂
 
 back₀ : (v n : ℕ) (rest : List ℕ) → n < 4294967296 → groups 5 0 v (written 5 n ++ rest) ≡ value (v + n * 1) (0 + length (written 5 n))
 back₀ v n rest h =
@@ -124,47 +131,31 @@ again₄ v u c (b ∷ bs) y h =
           ]
     ]
 
-again₃ : (v u c : ℕ) (bs : List ℕ) → All (λ b. b < 256) bs → groups 2 3 v bs ≡ value u c → Again 2 3 2097152 v u c bs 1 2048
-again₃ v u c [] y h = absurd (no-value u c h)
-again₃ v u c (b ∷ bs) y h =
+again-middle : (left k p high : ℕ) → 1 ≤ high → Middle left k p
+    → ((v u c : ℕ) (bs : List ℕ) → All (λ b. b < 256) bs → groups left (k + 1) v bs ≡ value u c → Again left (k + 1) (128 * p) v u c bs 1 high)
+    → (v u c : ℕ) (bs : List ℕ) → All (λ b. b < 256) bs → groups (suc left) k v bs ≡ value u c → Again (suc left) k p v u c bs 1 (128 * high)
+again-middle left k p high t m next v u c [] y h = absurd (no-value u c h)
+again-middle left k p high t m next v u c (b ∷ bs) y h =
+    let g = sym (m v b bs) ∙ h in
     elim (cases-bool (leb 128 b)) [
       | inl s ↦ let q : 128 ≤ b = leb-true 128 b s in
-          more 1 3 2097152 v u c (b - 128) b bs 1 16 (omega arith) (omega (arith, y .0)) (omega arith) (again₄ (v + (b - 128) * 2097152) u c bs (y .1) (rw s at h))
+          more left k p v u c (b - 128) b bs 1 high (omega arith) (omega (arith, y .0)) (omega arith) (next (v + (b - 128) * p) u c bs (y .1) (rw s at g))
       | inr s ↦
           let q : b < 128 = leb-false 128 b s in
           elim (cases-bool (eqb b 0)) [
-            | inl z ↦ absurd (too-long u c (rw (s, z) at h))
-            | inr z ↦ last 1 3 2097152 v u c b bs 1 2048 (rw (s, z) at h) q (above b z) (omega arith)
+            | inl z ↦ absurd (too-long u c (rw (s, z) at g))
+            | inr z ↦ last left k p v u c b bs 1 (128 * high) (rw (s, z) at g) q (above b z) (omega arith)
           ]
     ]
+
+again₃ : (v u c : ℕ) (bs : List ℕ) → All (λ b. b < 256) bs → groups 2 3 v bs ≡ value u c → Again 2 3 2097152 v u c bs 1 2048
+again₃ = again-middle 1 3 2097152 16 (omega arith) (λ v b bs. refl) again₄
 
 again₂ : (v u c : ℕ) (bs : List ℕ) → All (λ b. b < 256) bs → groups 3 2 v bs ≡ value u c → Again 3 2 16384 v u c bs 1 262144
-again₂ v u c [] y h = absurd (no-value u c h)
-again₂ v u c (b ∷ bs) y h =
-    elim (cases-bool (leb 128 b)) [
-      | inl s ↦ let q : 128 ≤ b = leb-true 128 b s in
-          more 2 2 16384 v u c (b - 128) b bs 1 2048 (omega arith) (omega (arith, y .0)) (omega arith) (again₃ (v + (b - 128) * 16384) u c bs (y .1) (rw s at h))
-      | inr s ↦
-          let q : b < 128 = leb-false 128 b s in
-          elim (cases-bool (eqb b 0)) [
-            | inl z ↦ absurd (too-long u c (rw (s, z) at h))
-            | inr z ↦ last 2 2 16384 v u c b bs 1 262144 (rw (s, z) at h) q (above b z) (omega arith)
-          ]
-    ]
+again₂ = again-middle 2 2 16384 2048 (omega arith) (λ v b bs. refl) again₃
 
 again₁ : (v u c : ℕ) (bs : List ℕ) → All (λ b. b < 256) bs → groups 4 1 v bs ≡ value u c → Again 4 1 128 v u c bs 1 33554432
-again₁ v u c [] y h = absurd (no-value u c h)
-again₁ v u c (b ∷ bs) y h =
-    elim (cases-bool (leb 128 b)) [
-      | inl s ↦ let q : 128 ≤ b = leb-true 128 b s in
-          more 3 1 128 v u c (b - 128) b bs 1 262144 (omega arith) (omega (arith, y .0)) (omega arith) (again₂ (v + (b - 128) * 128) u c bs (y .1) (rw s at h))
-      | inr s ↦
-          let q : b < 128 = leb-false 128 b s in
-          elim (cases-bool (eqb b 0)) [
-            | inl z ↦ absurd (too-long u c (rw (s, z) at h))
-            | inr z ↦ last 3 1 128 v u c b bs 1 33554432 (rw (s, z) at h) q (above b z) (omega arith)
-          ]
-    ]
+again₁ = again-middle 3 1 128 262144 (omega arith) (λ v b bs. refl) again₂
 
 again₀ : (v u c : ℕ) (bs : List ℕ) → All (λ b. b < 256) bs → groups 5 0 v bs ≡ value u c → Again 5 0 1 v u c bs 0 4294967296
 again₀ v u c [] y h = absurd (no-value u c h)

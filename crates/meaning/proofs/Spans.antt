@@ -1,6 +1,6 @@
 -- The spans of list and map columns ascend, and stay within the child.
 use mathlib.Core.Path.{_≡_, subst}
-use mathlib.Core.Bool.{true, false}
+use mathlib.Core.Bool.{false≢true, true, false}
 use Prim.Native.Nat.{ℕ, zero, suc, _+_, _-_, _*_, _/_, _≤_, _<_}
 use native.Mathlib.Nat.{add-zero, le-refl, le-trans, mul-le-mul-right, div-mul-le-self}
 use native.Mathlib.Numerals.{add-one-le}
@@ -8,12 +8,9 @@ use native.Mathlib.Omega.{arith}
 use lib.ListN.{getD}
 use Rattle.meaning.specs.Model.{Column, Code, bits, words, variable, fixedSizeBinary, structs, lists, largeLists, fixedSizeLists, maps}
 use Rattle.meaning.specs.Slots.{spanBy}
-use Rattle.meaning.specs.Access.{isList, isMap}
-use Rattle.meaning.specs.Enough.{Ascends, Cutting}
-use Rattle.meaning.proofs.Totals.{Cuts}
-
-unlike : false ≡ true → ⊥
-unlike e = let z : _≡_ {A = ℕ} 0 1 = cc in omega arith
+use Rattle.meaning.specs.Codes.{isList, isMap}
+use Rattle.meaning.proofs.Premises.{Ascends, Cutting}
+use Rattle.meaning.proofs.SlotSums.{Cuts}
 
 -- a fixed-size list cuts its child into equal parts
 fixed-inside : (i n s l : ℕ) → i < n → n ≡ l / s → (i + 1) * s ≤ l
@@ -43,23 +40,23 @@ ascends-cuts x l a = record {
 
 -- list and map columns
 pub list-cuts : (k : Code) (x : Column) (l : ℕ) → isList k ≡ true → Cutting k x l → Cuts (x .len) l (λ i. spanBy k (x .offsets) i .0) (λ i. spanBy k (x .offsets) i .1)
-list-cuts bits x l e c = absurd (unlike e)
-list-cuts (words w) x l e c = absurd (unlike e)
-list-cuts (variable t) x l e c = absurd (unlike e)
-list-cuts (fixedSizeBinary w) x l e c = absurd (unlike e)
-list-cuts structs x l e c = absurd (unlike e)
+list-cuts bits x l e c = absurd (false≢true e)
+list-cuts (words w) x l e c = absurd (false≢true e)
+list-cuts (variable t) x l e c = absurd (false≢true e)
+list-cuts (fixedSizeBinary w) x l e c = absurd (false≢true e)
+list-cuts structs x l e c = absurd (false≢true e)
 list-cuts lists x l e c = ascends-cuts x l c
 list-cuts largeLists x l e c = ascends-cuts x l c
 list-cuts (fixedSizeLists s) x l e c = fixed-cuts (x .len) s l c
-list-cuts maps x l e c = absurd (unlike e)
+list-cuts maps x l e c = absurd (false≢true e)
 
 pub map-cuts : (k : Code) (x : Column) (l : ℕ) → isMap k ≡ true → Cutting k x l → Cuts (x .len) l (λ i. spanBy k (x .offsets) i .0) (λ i. spanBy k (x .offsets) i .1)
-map-cuts bits x l e c = absurd (unlike e)
-map-cuts (words w) x l e c = absurd (unlike e)
-map-cuts (variable t) x l e c = absurd (unlike e)
-map-cuts (fixedSizeBinary w) x l e c = absurd (unlike e)
-map-cuts structs x l e c = absurd (unlike e)
-map-cuts lists x l e c = absurd (unlike e)
-map-cuts largeLists x l e c = absurd (unlike e)
-map-cuts (fixedSizeLists s) x l e c = absurd (unlike e)
+map-cuts bits x l e c = absurd (false≢true e)
+map-cuts (words w) x l e c = absurd (false≢true e)
+map-cuts (variable t) x l e c = absurd (false≢true e)
+map-cuts (fixedSizeBinary w) x l e c = absurd (false≢true e)
+map-cuts structs x l e c = absurd (false≢true e)
+map-cuts lists x l e c = absurd (false≢true e)
+map-cuts largeLists x l e c = absurd (false≢true e)
+map-cuts (fixedSizeLists s) x l e c = absurd (false≢true e)
 map-cuts maps x l e c = ascends-cuts x l c

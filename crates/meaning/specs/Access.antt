@@ -1,7 +1,7 @@
--- Which column stands for a field.
+-- Accessors: which column stands for a field, and the refusals of a step.
 use mathlib.Core.Path.{_≡_}
-use mathlib.Core.List.{List, [], _∷_}
-use mathlib.Core.Bool.{Bool, true, false, cond, _||_}
+use mathlib.Core.List.{List}
+use mathlib.Core.Bool.{true, cond}
 use Prim.Native.Nat.{ℕ, _+_}
 use lib.Dec.{eqb}
 use lib.ListN.{getD}
@@ -9,81 +9,47 @@ use Rattle.std.specs.declared.option.Option.{Option}
 use Rattle.std.specs.declared.option.Option.the-variants.{Some, None}
 use Rattle.std.specs.declared.result.Result.{Result}
 use Rattle.std.specs.declared.result.Result.the-variants.{Ok, Err}
-use Rattle.meaning.specs.Forest.{Forest, none, tree, numbers}
-use Rattle.meaning.specs.Model.{Model, Shape, prim, struct, list, map, Code, bits, words, variable, fixedSizeBinary, structs, lists, largeLists, fixedSizeLists, maps, at, children}
+use Rattle.meaning.specs.Forest.{numbers}
+use Rattle.meaning.specs.Model.{Model, Shape, prim, struct, list, map, children}
+use Rattle.meaning.specs.Lists.{among}
+use Rattle.meaning.specs.Codes.{struct?, list?, map?}
 
+-- the refusal of a step: its number, the column questioned, and the field
 pub record StepFault : Type 0 where
   pub number : ℕ
   pub column : ℕ
   pub field : ℕ
 
+-- refusal n at column c for field f
 abbrev pub fault : ℕ → ℕ → ℕ → StepFault
 fault n c f = record { number = n; column = c; field = f }
 
--- the meaning of an accessor on one batch: for a struct column and a field, one of the column's children or none
+-- what an accessor means on one batch: for a struct column and a field, a column that stands for the field, or none
 abbrev pub Pick : Type 0
 Pick = ℕ → ℕ → Option ℕ
 
-abbrev pub kids : Model → ℕ → List ℕ
-kids m c = numbers (c + 1) (children m c)
+-- the numbers of column c's children
+abbrev pub childNumbers : Model → ℕ → List ℕ
+childNumbers m c = numbers (c + 1) (children m c)
 
-abbrev pub among : ℕ → List ℕ → Bool
-among k [] = false
-among k (n ∷ ns) = eqb k n || among k ns
+-- the child at place i: a list's element column is at 0, a map's key column at 0 and its value column at 1
+abbrev pub childAt : Model → ℕ → ℕ → ℕ
+childAt m c i = getD (childNumbers m c) i 0
 
+-- a pick names only a column's own children
 abbrev pub Own : Model → Pick → Type 0
-Own m pick = (c f k : ℕ) → pick c f ≡ Some k → among k (kids m c) ≡ true
+Own m pick = (c f k : ℕ) → pick c f ≡ Some k → among k (childNumbers m c) ≡ true
 
-abbrev pub isStruct : Code → Bool
-isStruct bits = false
-isStruct (words w) = false
-isStruct (variable t) = false
-isStruct (fixedSizeBinary w) = false
-isStruct structs = true
-isStruct lists = false
-isStruct largeLists = false
-isStruct (fixedSizeLists s) = false
-isStruct maps = false
-
-abbrev pub isList : Code → Bool
-isList bits = false
-isList (words w) = false
-isList (variable t) = false
-isList (fixedSizeBinary w) = false
-isList structs = false
-isList lists = true
-isList largeLists = true
-isList (fixedSizeLists s) = true
-isList maps = false
-
-abbrev pub isMap : Code → Bool
-isMap bits = false
-isMap (words w) = false
-isMap (variable t) = false
-isMap (fixedSizeBinary w) = false
-isMap structs = false
-isMap lists = false
-isMap largeLists = false
-isMap (fixedSizeLists s) = false
-isMap maps = true
-
-abbrev pub struct? : Model → ℕ → Bool
-struct? m c = isStruct (at m c .code)
-
-abbrev pub list? : Model → ℕ → Bool
-list? m c = isList (at m c .code)
-
-abbrev pub map? : Model → ℕ → Bool
-map? m c = isMap (at m c .code)
-
-abbrev pub orNone : Option ℕ → StepFault → Result ℕ StepFault
-orNone None e = Err e
-orNone (Some k) e = Ok k
+-- what was picked, or the refusal
+abbrev pub orRefused : Option ℕ → StepFault → Result ℕ StepFault
+orRefused None e = Err e
+orRefused (Some k) e = Ok k
 
 module _ (m : Model) (pick : Pick) where
-  -- the partner of field n below a type of this shape, the type's field being up and its column c
+  -- the partner of field n, held by a type of this shape, the type's field being up and its column c:
+  -- a struct's by the pick (10 in a column that is no struct, 11 where none is picked), a list's the one child (12), a map's key the first and value the second (13)
   abbrev pub partner : Shape → ℕ → ℕ → ℕ → Result ℕ StepFault
   partner (prim p) up c n = Err (fault 9 c n)
-  partner struct up c n = cond (struct? m c) (orNone (pick c n) (fault 11 c n)) (Err (fault 10 c n))
-  partner list up c n = cond (list? m c) (Ok (getD (kids m c) 0 0)) (Err (fault 12 c up))
-  partner map up c n = cond (map? m c) (Ok (getD (kids m c) (cond (eqb n (up + 1)) 0 1) 0)) (Err (fault 13 c up))
+  partner struct up c n = cond (struct? m c) (orRefused (pick c n) (fault 11 c n)) (Err (fault 10 c n))
+  partner list up c n = cond (list? m c) (Ok (childAt m c 0)) (Err (fault 12 c up))
+  partner map up c n = cond (map? m c) (Ok (childAt m c (cond (eqb n (up + 1)) 0 1))) (Err (fault 13 c up))

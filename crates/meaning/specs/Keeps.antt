@@ -1,4 +1,4 @@
--- The rules that a batch keeps. A file of at most 1,048,576 bytes is accepted exactly if it encodes a batch that keeps them (Accepts).
+-- The rules that a batch keeps: limits, what types hold, and the layouts of the Arrow columnar format.
 use mathlib.Core.Path.{_≡_}
 use mathlib.Core.List.{List, [], _∷_}
 use Prim.Native.Nat.{ℕ, _+_, _-_, _*_, _/_, _^_, _≤_, _<_, max}
@@ -9,7 +9,7 @@ use Rattle.std.specs.declared.option.Option.the-variants.{Some, None}
 use Rattle.std.specs.shelf.Lists.{All}
 use Rattle.meaning.specs.Forest.{Forest, none, tree, size, count}
 use Rattle.meaning.specs.Model.{Model, Field, Column, Shape, prim, struct, list, map, Primitive, boolean, int, long, float, double, date, time, timestamp, timestamptz, timestampNs, timestamptzNs, string, uuid, fixed, binary, Code, bits, words, variable, fixedSizeBinary, structs, lists, largeLists, fixedSizeLists, maps}
-use Rattle.meaning.specs.Columns.{widthOf, offsetOf}
+use Rattle.meaning.specs.Columns.{widthOf, offsetOf, firstLen}
 use Rattle.meaning.specs.Encode.{encode}
 
 -- how many levels a forest has
@@ -17,10 +17,11 @@ abbrev pub levels : {H : Type 0} → Forest H → ℕ
 levels none = 0
 levels (tree h kids rest) = max (1 + levels kids) (levels rest)
 
+-- numbers below 256
 abbrev pub Bytes : List ℕ → Type 0
 Bytes bs = All (λ b. b < 256) bs
 
--- a name or an id text
+-- a name or an id text: at most 255 bytes
 abbrev pub Short : List ℕ → Type 0
 Short bs = (length bs ≤ 255) × Bytes bs
 
@@ -47,7 +48,7 @@ Sized uuid = Unit {0}
 Sized (fixed n) = n ≤ 65536
 Sized binary = Unit {0}
 
--- a primitive type
+-- what a key's type must be: primitive
 abbrev pub Plain : Shape → Type 0
 Plain (prim p) = Unit {0}
 Plain struct = ⊥
@@ -59,7 +60,7 @@ abbrev pub KeyFirst : Forest Field → Type 0
 KeyFirst none = Unit {0}
 KeyFirst (tree f below rest) = Plain (f .shape)
 
--- what a type asks of the fields that it holds
+-- what a type asks of the fields that it holds: a primitive type none, a list its element, a map its key and its value
 abbrev pub Holds : Shape → Forest Field → Type 0
 Holds (prim p) below = Sized p × (below ≡ none)
 Holds struct below = Unit {0}
@@ -76,17 +77,12 @@ abbrev pub Lengths : (ℕ → Type 0) → Forest Column → Type 0
 Lengths P none = Unit {0}
 Lengths P (tree x below rest) = P (x .len) × Lengths P rest
 
--- the length of a map's key column
-abbrev pub firstLength : Forest Column → ℕ
-firstLength none = 0
-firstLength (tree x below rest) = x .len
-
 -- none is below the one before it, the first not below `last`; all are below `top`
 abbrev pub Rising : ℕ → ℕ → List ℕ → Type 0
 Rising top last [] = Unit {0}
 Rising top last (o ∷ os) = (last ≤ o) × (o < top) × Rising top o os
 
--- so many slots are cut by one offset more, each a signed number of so many bytes that is not negative
+-- a column of n slots has n + 1 offsets (Arrow), each a signed number of so many bytes that is not negative
 abbrev pub Cuts : ℕ → Column → Type 0
 Cuts width x = (length (x .offsets) ≡ x .len + 1) × Rising (2 ^ (8 * width - 1)) 0 (x .offsets)
 
@@ -98,7 +94,7 @@ Within os end = All (λ o. o ≤ end) os
 abbrev pub Stored : ℕ → Column → Forest Column → Type 0
 Stored n x below = (length (x .body) ≡ n) × Bytes (x .body) × (x .offsets ≡ []) × (below ≡ none)
 
--- what a column's code asks of its body and of the columns below it
+-- what a column's code asks of its body and of its children (the layouts of the Arrow columnar format)
 abbrev pub Bodied : Code → Column → Forest Column → Type 0
 Bodied bits x below = Stored ((x .len + 7) / 8) x below
 Bodied (words w) x below = Stored (x .len * widthOf w) x below
@@ -110,14 +106,14 @@ Bodied largeLists x below = Cuts 8 x × (x .body ≡ []) × (count below ≡ 1) 
 Bodied (fixedSizeLists s) x below =
     (1 ≤ s) × (s ≤ 65536) × (x .offsets ≡ []) × (x .body ≡ []) × (count below ≡ 1) × Lengths (λ k. k / s ≡ x .len) below
 Bodied maps x below =
-    Cuts 4 x × (x .body ≡ []) × (count below ≡ 2) × Lengths (Within (x .offsets)) below × Lengths (λ k. k ≡ firstLength below) below
+    Cuts 4 x × (x .body ≡ []) × (count below ≡ 2) × Lengths (Within (x .offsets)) below × Lengths (λ k. k ≡ firstLen below) below
 
--- what is there keeps a rule
+-- what may be absent keeps a rule where it is there
 abbrev pub Optional : (List ℕ → Type 0) → Option (List ℕ) → Type 0
 Optional P None = Unit {0}
 Optional P (Some bs) = P bs
 
--- validity bits
+-- validity bits: (len + 7) / 8 bytes of them
 abbrev pub Validity : ℕ → List ℕ → Type 0
 Validity len bs = (length bs ≡ (len + 7) / 8) × Bytes bs
 
@@ -128,14 +124,19 @@ ColumnsKeep (tree x below rest) =
     Short (x .name) × Optional Short (x .idText) × (x .len ≤ 65536) × Optional (Validity (x .len)) (x .validity) × Bodied (x .code) x below
     × ColumnsKeep below × ColumnsKeep rest
 
--- a batch: its limits, its fields, its columns, and that the top columns are as long as it has rows
+-- the rules of a batch
 pub record Keeps (m : Model) : Type 0 where
+  -- at most 65,536 rows
   pub rows : m .rows ≤ 65536
+  -- at most 256 fields, at most 16 levels of them, and every field keeps its rules
   pub fewFields : size (m .fields) ≤ 256
   pub fieldLevels : levels (m .fields) ≤ 16
   pub fields : FieldsKeep (m .fields)
+  -- at most 256 columns, at most 16 levels of them, and every column keeps its rules
   pub fewColumns : size (m .columns) ≤ 256
   pub columnLevels : levels (m .columns) ≤ 16
   pub columns : ColumnsKeep (m .columns)
+  -- the top columns are as long as the batch has rows
   pub lengths : Lengths (λ k. k ≡ m .rows) (m .columns)
+  -- the file has at most 1,048,576 bytes
   pub small : length (encode m) ≤ 1048576

@@ -1,5 +1,11 @@
+-- The definitions, in reading order.
+-- what a batch is
 pub mod Forest
 pub mod Model
+pub mod Lists
+pub mod Equal
+pub mod Codes
+-- what a file means
 pub mod Items
 pub mod Schema
 pub mod Columns
@@ -7,25 +13,26 @@ pub mod File
 pub mod Encode
 pub mod Keeps
 pub mod Accepts
+-- slots and picks
 pub mod Slots
 pub mod Access
-pub mod Match
+pub mod Picks
+-- rows and refusals
+pub mod Literals
 pub mod Rows
-pub mod Refusals
-pub mod Counts
-pub mod Law
-pub mod Enough
-pub mod Trees
+pub mod Converts
+-- counts
+pub mod Reaches
+pub mod Nans
+pub mod Table
+pub mod CounterLaw
+-- the walk, and its two visitors
 pub mod Walk
-pub mod Formed
-pub mod Ideal
+pub mod Converter
 pub mod Counter
-pub mod Alongside
-pub mod Inserted
+-- printed text
 pub mod Text
 pub mod Print
-pub mod Cases
-pub mod RoundTrips
-pub mod LawCases
-pub mod KeepsCases
-pub mod WalkCases
+-- worked cases
+pub mod Samples
+pub mod WorkedCases

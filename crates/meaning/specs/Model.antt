@@ -1,12 +1,13 @@
 -- A batch: what a file means, apart from how it is stored.
-use mathlib.Core.List.{List, [], _∷_}
-use mathlib.Core.Bool.{Bool, true, false, cond}
-use Prim.Native.Nat.{ℕ, zero, suc, _+_}
+use mathlib.Core.List.{List, []}
+use mathlib.Core.Bool.{Bool}
+use Prim.Native.Nat.{ℕ, zero, suc}
 use lib.IntN.{ℤ}
 use Rattle.std.specs.declared.option.Option.{Option}
 use Rattle.std.specs.declared.option.Option.the-variants.{Some, None}
-use Rattle.meaning.specs.Forest.{Forest, none, tree, find}
+use Rattle.meaning.specs.Forest.{Forest, none, find}
 
+-- the primitive types of the Iceberg table specification, decimals left out; a Fixed has its length
 pub data Primitive : Type 0 where
   boolean : Primitive
   int : Primitive
@@ -25,7 +26,7 @@ pub data Primitive : Type 0 where
   binary : Primitive
   deriving IsSet as Primitive-set
 
--- a type without what it holds, which stands below its field
+-- a type without the fields that it holds, which stand below its own field: a struct its fields, a list its element, a map its key and its value
 pub data Shape : Type 0 where
   prim : Primitive → Shape
   struct : Shape
@@ -33,6 +34,7 @@ pub data Shape : Type 0 where
   map : Shape
   deriving IsSet as Shape-set
 
+-- a field of a schema: its id of 32 signed bits, whether it is required, its name's bytes, its type
 pub record Field : Type 0 where
   pub id : ℤ
   pub required : Bool
@@ -40,7 +42,7 @@ pub record Field : Type 0 where
   pub shape : Shape
   deriving IsSet as Field-set
 
--- fixed-width values
+-- the columns of fixed-width values: Int32, Int64, Float32, Float64, Date32, Time64 in microseconds, Timestamp in microseconds and in nanoseconds
 pub data Word : Type 0 where
   int32 : Word
   int64 : Word
@@ -52,7 +54,7 @@ pub data Word : Type 0 where
   nanos : Word
   deriving IsSet as Word-set
 
--- bytes cut by offsets
+-- the columns of bytes cut by offsets: Utf8, LargeUtf8, Binary, LargeBinary
 pub data Variable : Type 0 where
   utf8 : Variable
   largeUtf8 : Variable
@@ -60,6 +62,7 @@ pub data Variable : Type 0 where
   largeBinary : Variable
   deriving IsSet as Variable-set
 
+-- the column types of the Arrow columnar format: Boolean, fixed-width values, bytes cut by offsets, FixedSizeBinary of a width, Struct, List, LargeList, FixedSizeList of a size, Map
 pub data Code : Type 0 where
   bits : Code
   words : Word → Code
@@ -72,6 +75,7 @@ pub data Code : Type 0 where
   maps : Code
   deriving IsSet as Code-set
 
+-- a column without its children, which stand below it: name, id text if it has one, code, length, validity bits if it has them, offsets, stored bytes
 pub record Column : Type 0 where
   pub name : List ℕ
   pub idText : Option (List ℕ)
@@ -82,12 +86,13 @@ pub record Column : Type 0 where
   pub body : List ℕ
   deriving IsSet as Column-set
 
+-- what a batch file means: the number of rows, the schema's fields, the top columns
 pub record Model : Type 0 where
   pub rows : ℕ
   pub fields : Forest Field
   pub columns : Forest Column
 
--- the batch itself, as column 0
+-- the batch itself, as column 0: a struct column without nulls whose children are the top columns
 abbrev pub batch : Model → Column
 batch m = record { name = []; idText = None; code = structs; len = m .rows; validity = None; offsets = []; body = [] }
 
@@ -96,16 +101,20 @@ abbrev pub column : Model → ℕ → Option (Column × Forest Column)
 column m zero = Some (batch m, m .columns)
 column m (suc c) = find (suc c) 1 (m .columns)
 
+-- the column found; where none is, an empty struct column
 abbrev pub head : Option (Column × Forest Column) → Column
 head None = record { name = []; idText = None; code = structs; len = 0; validity = None; offsets = []; body = [] }
 head (Some (x, kids)) = x
 
+-- the columns below the one found
 abbrev pub below : Option (Column × Forest Column) → Forest Column
 below None = none
 below (Some (x, kids)) = kids
 
+-- column c
 abbrev pub at : Model → ℕ → Column
 at m c = head (column m c)
 
+-- the children of column c, and what is below them
 abbrev pub children : Model → ℕ → Forest Column
 children m c = below (column m c)

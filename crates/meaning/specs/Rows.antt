@@ -1,156 +1,60 @@
--- The value of a slot, in the schema's terms.
-use mathlib.Core.Path.{_≡_}
-use mathlib.Core.List.{List, [], _∷_, _++_, map as each}
-use mathlib.Core.Bool.{Bool, true, false, cond, not, _&&_, _||_}
-use Prim.Native.Nat.{ℕ, _+_, _-_, _*_}
-use lib.Dec.{eqb}
-use lib.IntN.{ℤ, pos, negsuc}
-use lib.ListN.{length, take, drop, getD}
-use Rattle.std.specs.declared.option.Option.{Option}
-use Rattle.std.specs.declared.option.Option.the-variants.{Some, None}
+-- The rows of a batch: the value of every slot, in the schema's terms.
+use mathlib.Core.List.{List, [], _∷_, _++_}
+use mathlib.Core.Bool.{Bool, cond}
+use Prim.Native.Nat.{ℕ, _+_}
 use Rattle.meaning.specs.Forest.{Forest, none, tree, size, beside}
-use Rattle.meaning.specs.Model.{Model, Column, Field, Shape, prim, struct, list, map, Primitive, boolean, int, long, float, double, date, time, timestamp, timestamptz, timestampNs, timestamptzNs, string, uuid, fixed, binary, at}
-use Rattle.meaning.specs.Slots.{null, bit, cut, span, stored, signed, nan32, nan64, upto}
-use Rattle.meaning.specs.Access.{Pick, kids}
-
--- a value without its parts, which stand below it: a struct's fields, a list's elements, a map's keys and values in turn
-pub data Item : Type 0 where
-  nothing : Item
-  truth : Bool → Item
-  whole : ℤ → Item
-  longer : ℤ → Item
-  single : ℕ → Item
-  doubled : ℕ → Item
-  raw : List ℕ → Item
-  record′ : Item
-  sequence : Item
-  mapping : Item
-
-abbrev pub Values : Type 0
-Values = Forest Item
-
-abbrev pub bytesAt : Column → ℕ → List ℕ
-bytesAt x i = take (span x i .1 - span x i .0) (drop (span x i .0) (x .body))
-
-abbrev pub literal : Primitive → Column → ℕ → Item
-literal boolean x i = truth (bit (x .body) i)
-literal int x i = whole (signed 4 (stored 4 (x .body) i))
-literal long x i = longer (signed 8 (stored 8 (x .body) i))
-literal float x i = single (stored 4 (x .body) i)
-literal double x i = doubled (stored 8 (x .body) i)
-literal date x i = whole (signed 4 (stored 4 (x .body) i))
-literal time x i = longer (signed 8 (stored 8 (x .body) i))
-literal timestamp x i = longer (signed 8 (stored 8 (x .body) i))
-literal timestamptz x i = longer (signed 8 (stored 8 (x .body) i))
-literal timestampNs x i = longer (signed 8 (stored 8 (x .body) i))
-literal timestamptzNs x i = longer (signed 8 (stored 8 (x .body) i))
-literal string x i = raw (bytesAt x i)
-literal uuid x i = raw (bytesAt x i)
-literal (fixed n) x i = raw (bytesAt x i)
-literal binary x i = raw (bytesAt x i)
-
-abbrev pub itemBy : Shape → Column → ℕ → Item
-itemBy (prim p) x i = literal p x i
-itemBy struct x i = record′
-itemBy list x i = sequence
-itemBy map x i = mapping
-
-abbrev pub item : Shape → Column → ℕ → Item
-item s x i = cond (null x i) nothing (itemBy s x i)
-
-abbrev pub sameBytes : List ℕ → List ℕ → Bool
-sameBytes [] [] = true
-sameBytes [] (y ∷ ys) = false
-sameBytes (x ∷ xs) [] = false
-sameBytes (x ∷ xs) (y ∷ ys) = eqb x y && sameBytes xs ys
-
-abbrev pub sameWhole : ℤ → ℤ → Bool
-sameWhole (pos a) (pos b) = eqb a b
-sameWhole (pos a) (negsuc b) = false
-sameWhole (negsuc a) (pos b) = false
-sameWhole (negsuc a) (negsuc b) = eqb a b
-
--- 0 and -0 are one number, and all NaNs are one key
-abbrev pub zero32 : ℕ → Bool
-zero32 a = eqb a 0 || eqb a 2147483648
-
-abbrev pub zero64 : ℕ → Bool
-zero64 a = eqb a 0 || eqb a 9223372036854775808
-
-abbrev pub same32 : ℕ → ℕ → Bool
-same32 a b = (nan32 a && nan32 b) || ((zero32 a && zero32 b) || (not (nan32 a) && eqb a b))
-
-abbrev pub same64 : ℕ → ℕ → Bool
-same64 a b = (nan64 a && nan64 b) || ((zero64 a && zero64 b) || (not (nan64 a) && eqb a b))
-
--- whether two keys of one column are one key, by slot
-abbrev pub sameKey : Primitive → Column → ℕ → ℕ → Bool
-sameKey boolean x i j = cond (bit (x .body) i) (bit (x .body) j) (not (bit (x .body) j))
-sameKey int x i j = eqb (stored 4 (x .body) i) (stored 4 (x .body) j)
-sameKey long x i j = eqb (stored 8 (x .body) i) (stored 8 (x .body) j)
-sameKey float x i j = same32 (stored 4 (x .body) i) (stored 4 (x .body) j)
-sameKey double x i j = same64 (stored 8 (x .body) i) (stored 8 (x .body) j)
-sameKey date x i j = eqb (stored 4 (x .body) i) (stored 4 (x .body) j)
-sameKey time x i j = eqb (stored 8 (x .body) i) (stored 8 (x .body) j)
-sameKey timestamp x i j = eqb (stored 8 (x .body) i) (stored 8 (x .body) j)
-sameKey timestamptz x i j = eqb (stored 8 (x .body) i) (stored 8 (x .body) j)
-sameKey timestampNs x i j = eqb (stored 8 (x .body) i) (stored 8 (x .body) j)
-sameKey timestamptzNs x i j = eqb (stored 8 (x .body) i) (stored 8 (x .body) j)
-sameKey string x i j = sameBytes (bytesAt x i) (bytesAt x j)
-sameKey uuid x i j = sameBytes (bytesAt x i) (bytesAt x j)
-sameKey (fixed n) x i j = sameBytes (bytesAt x i) (bytesAt x j)
-sameKey binary x i j = sameBytes (bytesAt x i) (bytesAt x j)
-
-abbrev pub sameBy : Shape → Column → ℕ → ℕ → Bool
-sameBy (prim p) x i j = sameKey p x i j
-sameBy struct x i j = eqb i j
-sameBy list x i j = eqb i j
-sameBy map x i j = eqb i j
-
-abbrev pub anyOf : (ℕ → Bool) → List ℕ → Bool
-anyOf f [] = false
-anyOf f (j ∷ js) = f j || anyOf f js
+use Rattle.meaning.specs.Model.{Model, Column, Field, Shape, prim, struct, list, map, at}
+use Rattle.meaning.specs.Lists.{upto, anyOf, orZero}
+use Rattle.meaning.specs.Slots.{null, spanSlots}
+use Rattle.meaning.specs.Access.{childAt, Pick}
+use Rattle.meaning.specs.Literals.{structLiteral, Values, literalAt, sameBy}
 
 -- the last of the slots js whose key is that of slot i, or i
 abbrev pub lastSame : (ℕ → Bool) → ℕ → List ℕ → ℕ
 lastSame same i [] = i
 lastSame same i (j ∷ js) = cond (same j) (lastSame same j js) (lastSame same i js)
 
--- the pairs that a map keeps, as (key slot, value slot): each key at its first place, with the value of its last
+-- the pairs that a map keeps of the slots of its span, those before them being `seen`
 abbrev pub keptFrom : (ℕ → ℕ → Bool) → List ℕ → List ℕ → List (ℕ × ℕ)
 keptFrom same seen [] = []
 keptFrom same seen (i ∷ is) = cond (anyOf (same i) seen) (keptFrom same (seen ++ (i ∷ [])) is) ((i, lastSame (same i) i is) ∷ keptFrom same (seen ++ (i ∷ [])) is)
 
+-- the pairs that a map keeps, as (key slot, value slot): a repeated key keeps its first place and first key, and takes its last value
 abbrev pub kept : (ℕ → ℕ → Bool) → List ℕ → List (ℕ × ℕ)
 kept same is = keptFrom same [] is
 
+-- the values of each element, side by side
 abbrev pub joined : {X : Type 0} → (X → Values) → List X → Values
 joined f [] = none
 joined f (x ∷ xs) = beside (f x) (joined f xs)
 
-abbrev pub orZero : Option ℕ → ℕ
-orZero None = 0
-orZero (Some k) = k
+-- the value of slot i of a column, over these parts unless the slot is null; and the values after it
+abbrev pub valueTree : Shape → Column → ℕ → Values → Values → Values
+valueTree s x i below rest = tree (literalAt s x i) (cond (null x i) none below) rest
 
 module _ (m : Model) (pick : Pick) where
-  -- what stands below the value of slot i of column c, for a type of this shape whose fields are these, the first being n
+  -- what stands below the value of slot i of column c, for a type of this shape whose fields are these, the first having number n:
+  -- a struct's fields at the columns that the pick names, the elements of a list's span, the kept pairs of a map's
   abbrev pub parts : Forest Field → Shape → ℕ → ℕ → ℕ → Values
   parts none s n c i = none
   parts (tree f below rest) (prim p) n c i = none
   parts (tree f below rest) struct n c i =
       let p : ℕ = orZero (pick c n) in
-      tree (item (f .shape) (at m p) i) (cond (null (at m p) i) none (parts below (f .shape) (n + 1) p i)) (parts rest struct (n + 1 + size below) c i)
+      valueTree (f .shape) (at m p) i (parts below (f .shape) (n + 1) p i) (parts rest struct (n + 1 + size below) c i)
   parts (tree f below rest) list n c i =
-      let p : ℕ = getD (kids m c) 0 0 in
-      joined (λ j. tree (item (f .shape) (at m p) j) (cond (null (at m p) j) none (parts below (f .shape) (n + 1) p j)) none) (cut (at m c) i)
+      let p : ℕ = childAt m c 0 in
+      joined (λ j. valueTree (f .shape) (at m p) j (parts below (f .shape) (n + 1) p j) none) (spanSlots (at m c) i)
   parts (tree f below none) map n c i = none
   parts (tree f below (tree g under rest)) map n c i =
-      let p : ℕ = getD (kids m c) 0 0 in
-      let q : ℕ = getD (kids m c) 1 0 in
-      joined (λ (kv : ℕ × ℕ). tree (item (f .shape) (at m p) (kv .0)) none (tree (item (g .shape) (at m q) (kv .1)) (cond (null (at m q) (kv .1)) none (parts under (g .shape) (n + 1 + size below + 1) q (kv .1))) none)) (kept (sameBy (f .shape) (at m p)) (cut (at m c) i))
+      let p : ℕ = childAt m c 0 in
+      let q : ℕ = childAt m c 1 in
+      joined (λ (kv : ℕ × ℕ). tree (literalAt (f .shape) (at m p) (kv .0)) none (valueTree (g .shape) (at m q) (kv .1) (parts under (g .shape) (n + 1 + size below + 1) q (kv .1)) none))
+      (kept (sameBy (f .shape) (at m p)) (spanSlots (at m c) i))
 
+  -- row i: a struct of the schema's fields
   abbrev pub row : ℕ → Values
-  row i = tree record′ (parts (m .fields) struct 1 0 i) none
+  row i = tree structLiteral (parts (m .fields) struct 1 0 i) none
 
+  -- all rows, in their order
   abbrev pub rows : Values
   rows = joined row (upto (m .rows))

@@ -1,4 +1,4 @@
--- The walk over a schema with a batch beside it, for any visitor: visitor.rs's order of questions and hooks.
+-- The walk over a schema with a batch beside it, for any visitor: the order of questions and hooks is that of iceberg's spec/schema/visitor.rs.
 use mathlib.Core.Bool.{Bool, true, false, cond}
 use mathlib.Core.List.{List, [], _∷_}
 use Prim.Native.Nat.{ℕ, zero, suc, _+_}
@@ -15,19 +15,32 @@ use Rattle.meaning.specs.Access.{Pick, StepFault, fault, partner}
 abbrev pub Step : Type 0 → Type 0 → Type 0
 Step S X = S → Result X StepFault × S
 
+-- an answer that changes no state
 abbrev pub ret : {S X : Type 0} → X → Step S X
 ret x s = (Ok x, s)
 
+-- a refusal that changes no state
 abbrev pub refuse : {S X : Type 0} → StepFault → Step S X
 refuse e s = (Err e, s)
 
--- the first refusal ends it
-abbrev pub carry : {S X Y : Type 0} → (X → Step S Y) → Result X StepFault × S → Result Y StepFault × S
-carry f (Ok x, s) = f x s
-carry f (Err e, s) = (Err e, s)
+-- what goes on with an outcome; a refusal ends it
+abbrev pub bindResult : {S X Y : Type 0} → (X → Step S Y) → Result X StepFault × S → Result Y StepFault × S
+bindResult f (Ok x, s) = f x s
+bindResult f (Err e, s) = (Err e, s)
 
+-- one step after another, up to the first refusal
 abbrev pub bind : {S X Y : Type 0} → Step S X → (X → Step S Y) → Step S Y
-bind m f s = carry f (m s)
+bind m f s = bindResult f (m s)
+
+-- the step on what was found; a refusal where nothing was
+abbrev pub orRefuse : {X Y S : Type 0} → Option X → StepFault → (X → Step S Y) → Step S Y
+orRefuse None e k = refuse e
+orRefuse (Some x) e k = k x
+
+-- a refusal where a test holds, and else the step
+abbrev pub refuseIf : {Y S : Type 0} → Bool → StepFault → Step S Y → Step S Y
+refuseIf true e k = refuse e
+refuseIf false e k = k
 
 -- what a field is to the type that holds it
 pub data Role : Type 0 where
@@ -36,7 +49,8 @@ pub data Role : Type 0 where
   mapKey : Role
   mapValue : Role
 
--- a visitor, by what its hooks do: each is given the number of a field and of a column
+-- a visitor, by what its hooks do. Each is given the number of a field and of its partner column; T is a visitor's result for a column, S its state.
+-- `before` and `after` stand for the eight hooks before and after a struct field, a list element, a map key and a map value, the others for `field`, `primitive`, `struct`, `list` and `map`
 pub record Hooks (S T : Type 0) : Type 0 where
   pub before : Role → ℕ → ℕ → Step S (Unit {0})
   pub after : Role → ℕ → ℕ → Step S (Unit {0})
@@ -53,25 +67,28 @@ role struct up n = structField
 role list up n = listElement
 role map up n = cond (eqb n (up + 1)) mapKey mapValue
 
--- field n and the fields below it; and its type, field 0 being the schema's struct
+-- field n, and the fields below it
 abbrev pub fieldAt : Model → ℕ → Option (Field × Forest Field)
 fieldAt m n = find n 1 (m .fields)
 
+-- a field's type: its shape, and the fields that it holds
 abbrev pub typeOf : Option (Field × Forest Field) → Option (Shape × Forest Field)
 typeOf None = None
 typeOf (Some (f, below)) = Some (f .shape, below)
 
+-- the type of field n, field 0 being the schema's struct
 abbrev pub typeAt : Model → ℕ → Option (Shape × Forest Field)
 typeAt m zero = Some (struct, m .fields)
 typeAt m (suc n) = typeOf (fieldAt m (suc n))
 
--- a number that names no column
-abbrev pub nowhere : Option (Column × Forest Column) → Bool
-nowhere None = true
-nowhere (Some x) = false
+-- nothing was found
+abbrev pub absentColumn : Option (Column × Forest Column) → Bool
+absentColumn None = true
+absentColumn (Some x) = false
 
+-- the number c names no column
 abbrev pub missing : Model → ℕ → Bool
-missing m c = nowhere (column m c)
+missing m c = absentColumn (column m c)
 
 module _ {S T : Type 0} (h : Hooks S T) where
   -- a type's own hook, on the results of the fields that it holds; a list holds one and a map two
@@ -107,9 +124,9 @@ module _ {S T : Type 0} (m : Model) (pick : Pick) (h : Hooks S T) where
       (λ ts. ret (t′ ∷ ts))))))
 
   -- the type of field n, which has this shape and holds these fields, at column c
-  abbrev pub visits : Shape → Forest Field → ℕ → ℕ → Step S T
-  visits s below n c = bind (walk below s n (n + 1) c) (close h s n c)
+  abbrev pub visitType : Shape → Forest Field → ℕ → ℕ → Step S T
+  visitType s below n c = bind (walk below s n (n + 1) c) (close h s n c)
 
   -- the schema's struct at column c
-  abbrev pub visitsStruct : ℕ → Step S T
-  visitsStruct c = visits struct (m .fields) 0 c
+  abbrev pub visitStruct : ℕ → Step S T
+  visitStruct c = visitType struct (m .fields) 0 c

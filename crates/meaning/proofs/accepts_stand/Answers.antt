@@ -1,4 +1,4 @@
--- The law is a theorem about the definitions alone.
+-- What the contract demands is the theorem.
 use Rattle.meaning.proofs.Accepts.{accepts-law}
 use Rattle.meaning.proofs.accepts_stand.Needs as need
 

@@ -1,5 +1,5 @@
 -- What the contract demands is the theorem.
-use Rattle.meaning.proofs.Matching.{own-id, own-name}
+use Rattle.meaning.proofs.OwnPicks.{own-id, own-name}
 use Rattle.meaning.proofs.picks_stand.Needs as need
 
 pub returns : need.returns

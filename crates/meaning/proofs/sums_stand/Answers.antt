@@ -1,7 +1,6 @@
 -- What the contract demands is the theorem.
-use Rattle.meaning.specs.Keeps.{Keeps}
-use Rattle.meaning.proofs.Sums.{sums-law}
+use Rattle.meaning.proofs.SumsLaw.{sums-law}
 use Rattle.meaning.proofs.sums_stand.Needs as need
 
 pub returns : need.returns
-returns c = sums-law Keeps
+returns c = sums-law
