@@ -2,6 +2,7 @@ mod lines;
 mod names;
 mod nulls;
 mod quoted;
+mod report;
 mod view;
 
 pub use lines::ColumnLine;
@@ -17,6 +18,7 @@ pub use names::TypeNameDisplay;
 pub use nulls::count_nulls;
 pub use quoted::Quoted;
 pub use quoted::QuotedDisplay;
+pub use report::report_refused;
 pub use view::Code;
 pub use view::Column;
 pub use view::Field;

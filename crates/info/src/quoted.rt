@@ -1,5 +1,4 @@
 // Names as text.
-ghost use denote.Ref.{now as held};
 ghost use mathlib.Core.Path.{_≡_};
 ghost use Prim.Native.Nat.{_<_};
 ghost use Rattle.std.specs.declared.option.Option.the-variants.{Some};
@@ -13,7 +12,7 @@ use std::fmt;
 pub struct Quoted<'a>(pub &'a [u8]);
 
 pub impl fmt::Display for Quoted<'_> as QuotedDisplay {
-    ghost shown = { λ q. Some (quoted (held (q .0))) };
+    ghost shown = { λ q. Some (quoted (q .0 .now)) };
 
     fn fmt<W: fmt::Write>(&self, f: &mut fmt::Formatter<W>) -> fmt::Result {
         f.write_char('"')?;
