@@ -1,12 +1,16 @@
 -- What a fault of the code says in the words of the definitions.
+use mathlib.Core.List.{List}
 use Prim.Native.Nat.{ℕ}
 use Rattle.meaning.specs.Items as items
 use Rattle.meaning.specs.Access as access
+use Rattle.meaning.specs.Text.{batchFaultLine, stepFaultLine}
 use Rattle.fault.specs.declared.refusal.Refusal.{Refusal}
 use Rattle.fault.specs.declared.faults.Entry.{Entry}
 use Rattle.fault.specs.declared.faults.Entry.the-variants.{Head, Field, Column}
 use Rattle.fault.specs.declared.faults.BatchFault.{BatchFault}
 use Rattle.fault.specs.declared.faults.StepFault.{StepFault}
+use Rattle.fault.specs.declared.faults.RunFault.{RunFault}
+use Rattle.fault.specs.declared.faults.RunFault.the-variants.{Batch, Step}
 use Rattle.fault.specs.Numbers.{numberOf}
 
 -- whose item it is
@@ -28,3 +32,8 @@ stepFaultAt r c f = record { number = numberOf r; column = c; field = f }
 
 abbrev pub stepFaultOf : StepFault → access.StepFault
 stepFaultOf f = stepFaultAt (f .refusal) (f .column) (f .field)
+
+-- the line of the fault that ended a run
+abbrev pub runFaultLine : RunFault → List ℕ
+runFaultLine (Batch f) = batchFaultLine (batchFaultOf f)
+runFaultLine (Step f) = stepFaultLine (stepFaultOf f)

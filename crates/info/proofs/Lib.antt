@@ -1,0 +1,5 @@
+mod Naming
+mod Quoting
+mod Tallies
+mod Worked
+mod Writing

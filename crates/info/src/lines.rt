@@ -1,0 +1,88 @@
+// The lines of fields and columns.
+ghost use mathlib.Core.Path.{_≡_};
+ghost use Rattle.std.specs.declared.option.Option.the-variants.{Some};
+ghost use Rattle.info.specs.Lines.{idText, requiredText, fieldLine, columnLine};
+ghost use Rattle.info.specs.View.{bytesIn, fieldOf, columnOf};
+use crate::names::CodeName;
+use crate::names::CodeNameDisplay;
+use crate::names::TypeName;
+use crate::names::TypeNameDisplay;
+use crate::nulls::count_nulls;
+use crate::quoted::Quoted;
+use crate::quoted::QuotedDisplay;
+use crate::view::Column;
+use crate::view::Field;
+use std::fmt;
+
+// A field with its number and its level, as
+// `field 1 level 1 id 4 optional name "d" double`.
+#[derive(Clone, Copy)]
+pub struct FieldLine<'a> {
+    pub level: usize,
+    pub number: usize,
+    pub field: Field<'a>,
+}
+
+// A column with its number and its level, as
+// `column 1 level 1 name "d" id "4" float64 length 2 nulls 1`.
+#[derive(Clone, Copy)]
+pub struct ColumnLine<'a> {
+    pub level: usize,
+    pub number: usize,
+    pub column: Column<'a>,
+}
+
+// A column's id text, or `none`.
+#[derive(Clone, Copy)]
+pub struct IdText<'a>(pub Option<&'a [u8]>);
+
+pub impl fmt::Display for FieldLine<'_> as FieldLineDisplay {
+    ghost shown = { λ l. Some (fieldLine (l .level) (l .number) (fieldOf (l .field))) };
+
+    fn fmt<W: fmt::Write>(&self, f: &mut fmt::Formatter<W>) -> fmt::Result {
+        let FieldLine { level, number, .. } = *self;
+        let id = self.field.id;
+        let presence = presence(self.field.required);
+        let name = Quoted(self.field.name);
+        let kind = TypeName(self.field.kind);
+        write!(
+            f,
+            "field {number} level {level} id {id} {presence} name {name} {kind}"
+        )
+    }
+}
+
+pub impl fmt::Display for IdText<'_> as IdTextDisplay {
+    ghost shown = { λ t. Some (idText (bytesIn (t .0))) };
+
+    fn fmt<W: fmt::Write>(&self, f: &mut fmt::Formatter<W>) -> fmt::Result {
+        match self.0 {
+            Some(text) => write!(f, "{}", Quoted(text)),
+            None => f.write_str("none"),
+        }
+    }
+}
+
+pub impl fmt::Display for ColumnLine<'_> as ColumnLineDisplay {
+    ghost shown = { λ l. Some (columnLine (l .level) (l .number) (columnOf (l .column))) };
+
+    fn fmt<W: fmt::Write>(&self, f: &mut fmt::Formatter<W>) -> fmt::Result {
+        let ColumnLine { level, number, .. } = *self;
+        let name = Quoted(self.column.name);
+        let id = IdText(self.column.id_text);
+        let code = CodeName(self.column.code);
+        let length = self.column.len;
+        let nulls = count_nulls(&self.column);
+        write!(
+            f,
+            "column {number} level {level} name {name} id {id} {code} length {length} nulls {nulls}"
+        )
+    }
+}
+
+// Whether a field may be null.
+fn presence(required: bool) -> &'static str
+    ensures { λ r. ⌜ now r ≡ requiredText required ⌝ }
+{
+    if required { "required" } else { "optional" }
+}
