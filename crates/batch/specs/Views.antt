@@ -20,9 +20,13 @@ use Rattle.batch.specs.declared.view.OffsetBuffer.{OffsetBuffer}
 abbrev pub numbered : {H : Type 0} → ℕ → Option (H × Forest H) → Option (H × ℕ)
 numbered n o = mapped (λ x. (x .0, n + 1 + size (x .1))) o
 
--- the field that is seen, and the number after its subtree
+-- the field that a view shows
+abbrev pub fieldOf : Field → model.Field
+fieldOf f = record { id = f .id; required = f .required; name = now (f .name); shape = shapeOf (f .kind) }
+
+-- with the number after its subtree
 abbrev pub fieldSeen : Field → model.Field × ℕ
-fieldSeen f = (record { id = f .id; required = f .required; name = now (f .name); shape = shapeOf (f .kind) }, f .end)
+fieldSeen f = (fieldOf f, f .end)
 
 -- bytes, if there are any
 abbrev pub maybePart : Option (RefT (List ℕ)) → Option (List ℕ)
@@ -32,17 +36,18 @@ maybePart o = mapped now o
 abbrev pub offsetsSeen : OffsetBuffer → List ℕ
 offsetsSeen o = values (placed (wide (o .width)) (now (o .bytes)) 0 (length (now (o .bytes)) / wide (o .width)))
 
--- the column that is seen, and the number after its subtree
+-- the column that a view shows
+abbrev pub columnOf : Column → model.Column
+columnOf c = record {
+  name = now (c .name);
+  idText = maybePart (c .«id_text»);
+  code = codeMeant (c .code);
+  len = c .len;
+  validity = maybePart (c .validity);
+  offsets = offsetsSeen (c .offsets);
+  body = now (c .body);
+}
+
+-- with the number after its subtree
 abbrev pub columnSeen : Column → model.Column × ℕ
-columnSeen c = (
-  record {
-    name = now (c .name);
-    idText = maybePart (c .«id_text»);
-    code = codeMeant (c .code);
-    len = c .len;
-    validity = maybePart (c .validity);
-    offsets = offsetsSeen (c .offsets);
-    body = now (c .body);
-  },
-  c .end,
-)
+columnSeen c = (columnOf c, c .end)

@@ -8,10 +8,11 @@ use Rattle.std.specs.declared.fmt.Formatter.{Formatter}
 use Rattle.std.specs.Written.{decimal as written, Put}
 use Rattle.fault.proofs.Decimal.{decimal-written}
 use Rattle.meaning.specs.Text.{decimal}
-use Rattle.info.specs.declared.view.Code.{Code}
-use Rattle.info.specs.declared.view.Primitive.{Primitive}
+use Rattle.columns.specs.declared.code.Code.{Code}
+use Rattle.schema.specs.declared.types.Primitive.{Primitive}
 use Rattle.info.specs.Lines.{codeText, primitiveText}
-use Rattle.info.specs.View.{codeMeant, primOf}
+use Rattle.columns.specs.Codes.{codeMeant}
+use Rattle.schema.specs.Forms.{primOf}
 
 -- a name with a number in brackets
 pub bracketed : (name : List ℕ) (n : ℕ) → n < 2 ^ 64 → name ++ (written n ++ codes "]") ≡ name ++ decimal n ++ codes "]"

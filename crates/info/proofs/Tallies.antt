@@ -13,8 +13,8 @@ use Rattle.std.specs.declared.option.Option.the-variants.{Some, None}
 use Rattle.std.proofs.shelf.Lists.{getD-past}
 use Rattle.std.proofs.shelf.Ways.{tells}
 use Rattle.meaning.specs.Model.{Column}
-use Rattle.meaning.specs.Slots.{bit, nullIn, null, upto}
-use Rattle.meaning.specs.Counts.{tally}
+use Rattle.meaning.specs.Slots.{bit, null, unset}
+use Rattle.meaning.specs.Lists.{tally, upto}
 use Rattle.info.specs.Lines.{nulls}
 
 tally-map : (f : ℕ → Bool) (xs : List ℕ) → tally f (map suc xs) ≡ tally (λ i. f (suc i)) xs
@@ -36,7 +36,7 @@ tally-none f (x ∷ xs) h = λ i. cond (h x i) 1 0 + tally-none f xs h i
 
 -- a column without validity bits has no null
 pub none-null : (x : Column) → x .validity ≡ None → nulls x ≡ 0
-none-null x e = tally-none (null x) (upto (x .len)) (λ i. ap (λ (v : Option (List ℕ)). ltb i (x .len) && nullIn v i) e ∙ and-false (ltb i (x .len)))
+none-null x e = tally-none (null x) (upto (x .len)) (λ i. ap (λ (v : Option (List ℕ)). ltb i (x .len) && unset v i) e ∙ and-false (ltb i (x .len)))
 
 flip : (b : Bool) → _≡_ {A = ℕ} (cond b 0 1) (cond (not b) 1 0)
 flip true = refl
@@ -46,7 +46,7 @@ flip false = refl
 pub more-nulls : (x : Column) (bs : List ℕ) (i n m : ℕ) (valid : Bool) → x .validity ≡ Some bs → i < x .len → valid ≡ bit bs i → m ≡ n + cond valid 0 1 → n ≡ tally (null x) (upto i) → m ≡ tally (null x) (upto (i + 1))
 more-nulls x bs i n m valid v l b e before =
     let inside : ltb i (x .len) ≡ true = grind (arith, tells) in
-    let one : _≡_ {A = ℕ} (cond valid 0 1) (cond (null x i) 1 0) = flip valid ∙ (λ j. cond (not (b j)) 1 0) ∙ (λ j. cond (sym inside j && nullIn (sym v j) i) 1 0) in
+    let one : _≡_ {A = ℕ} (cond valid 0 1) (cond (null x i) 1 0) = flip valid ∙ (λ j. cond (not (b j)) 1 0) ∙ (λ j. cond (sym inside j && unset (sym v j) i) 1 0) in
     let next : suc i ≡ i + 1 = omega arith in
     e ∙ (λ j. before j + one j) ∙ sym (tally-more (null x) i) ∙ ap (λ (k : ℕ). tally (null x) (upto k)) next
 

@@ -10,8 +10,8 @@ use Rattle.std.specs.declared.result.Result.{Result}
 use Rattle.std.specs.declared.result.Result.the-variants.{Ok, Err}
 use Rattle.meaning.specs.Forest.{Forest, none, tree, size}
 use Rattle.meaning.specs.Model.{Primitive, boolean, int, long, float, double, date, time, timestamp, timestamptz, timestampNs, timestamptzNs, string, uuid, fixed, binary, Shape, prim, struct, list, map, Field, Word, int32, int64, float32, float64, date32, time64, micros, nanos, Variable, utf8, largeUtf8, binaries, largeBinary, Code, bits, words, variable, fixedSizeBinary, structs, lists, largeLists, fixedSizeLists, maps, Column, Model}
-use Rattle.meaning.specs.Slots.{null, upto}
-use Rattle.meaning.specs.Counts.{tally}
+use Rattle.meaning.specs.Slots.{null}
+use Rattle.meaning.specs.Lists.{tally, upto}
 use Rattle.meaning.specs.Items.{BatchFault}
 use Rattle.meaning.specs.Text.{decimal, integer, hex, batchFaultLine}
 

@@ -3,7 +3,6 @@ mod names;
 mod nulls;
 mod quoted;
 mod report;
-mod view;
 
 pub use lines::ColumnLine;
 pub use lines::ColumnLineDisplay;
@@ -19,8 +18,3 @@ pub use nulls::count_nulls;
 pub use quoted::Quoted;
 pub use quoted::QuotedDisplay;
 pub use report::report_refused;
-pub use view::Code;
-pub use view::Column;
-pub use view::Field;
-pub use view::Kind;
-pub use view::Primitive;

@@ -2,7 +2,7 @@
 ghost use mathlib.Core.Path.{_≡_};
 ghost use Rattle.std.specs.declared.option.Option.the-variants.{Some};
 ghost use Rattle.info.specs.Lines.{idText, requiredText, fieldLine, columnLine};
-ghost use Rattle.info.specs.View.{bytesIn, fieldOf, columnOf};
+ghost use Rattle.batch.specs.Views.{columnOf, fieldOf, maybePart};
 use crate::names::CodeName;
 use crate::names::CodeNameDisplay;
 use crate::names::TypeName;
@@ -10,8 +10,8 @@ use crate::names::TypeNameDisplay;
 use crate::nulls::count_nulls;
 use crate::quoted::Quoted;
 use crate::quoted::QuotedDisplay;
-use crate::view::Column;
-use crate::view::Field;
+use batch::Column;
+use batch::Field;
 use std::fmt;
 
 // A field with its number and its level, as
@@ -53,7 +53,7 @@ pub impl fmt::Display for FieldLine<'_> as FieldLineDisplay {
 }
 
 pub impl fmt::Display for IdText<'_> as IdTextDisplay {
-    ghost shown = { λ t. Some (idText (bytesIn (t .0))) };
+    ghost shown = { λ t. Some (idText (maybePart (t .0))) };
 
     fn fmt<W: fmt::Write>(&self, f: &mut fmt::Formatter<W>) -> fmt::Result {
         match self.0 {

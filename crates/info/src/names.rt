@@ -2,10 +2,11 @@
 ghost use Rattle.std.specs.declared.option.Option.the-variants.{Some};
 ghost use Rattle.std.specs.Written.{Prints};
 ghost use Rattle.info.specs.Lines.{primitiveText, typeText, codeText};
-ghost use Rattle.info.specs.View.{primOf, shapeOf, codeMeant};
-use crate::view::Code;
-use crate::view::Kind;
-use crate::view::Primitive;
+ghost use Rattle.columns.specs.Codes.{codeMeant};
+ghost use Rattle.schema.specs.Forms.{primOf, shapeOf};
+use columns::Code;
+use schema::Kind;
+use schema::Primitive;
 use std::fmt;
 
 // A field's type, as `long` or `fixed[16]`.

@@ -2,8 +2,8 @@
 ghost use mathlib.Core.Path.{_≡_};
 ghost use Rattle.meaning.specs.Slots.{bit};
 ghost use Rattle.info.specs.Lines.{nulls};
-ghost use Rattle.info.specs.View.{columnOf};
-use crate::view::Column;
+ghost use Rattle.batch.specs.Views.{columnOf};
+use batch::Column;
 
 // How many of the column's slots are null.
 pub fn count_nulls(column: &Column) -> usize

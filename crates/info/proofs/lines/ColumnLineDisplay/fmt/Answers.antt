@@ -1,7 +1,7 @@
 -- What is written is the line of the column.
 use native.Mathlib.Omega.{arith}
 use Rattle.std.proofs.Writes.{put-is}
-use Rattle.info.specs.View.{columnOf}
+use Rattle.batch.specs.Views.{columnOf}
 use Rattle.info.proofs.Writing.{column-line}
 use Rattle.info.proofs.lines.ColumnLineDisplay.fmt.Needs as need
 

@@ -5,7 +5,7 @@ use mir.Syntax.{w32}
 use mir.Val.{SFits, toZ, ofZ}
 use Rattle.std.proofs.Writes.{put-is}
 use Rattle.std.proofs.shelf.Signed.{ints, toZ-ofZ}
-use Rattle.info.specs.View.{fieldOf}
+use Rattle.batch.specs.Views.{fieldOf}
 use Rattle.info.proofs.Writing.{field-line}
 use Rattle.info.proofs.lines.FieldLineDisplay.fmt.Needs as need
 
