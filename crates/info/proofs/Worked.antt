@@ -9,18 +9,18 @@ use Rattle.std.specs.declared.result.Result.the-variants.{Ok, Err}
 use Rattle.meaning.specs.Forest.{none, tree}
 use Rattle.meaning.specs.Model.{prim, double, fixed, struct, words, float64, variable, utf8, structs}
 use Rattle.meaning.specs.Items.{field}
-use Rattle.info.specs.Lines.{quoted, nulls, fieldLine, columnLine, fieldLines, columnLines, report}
+use Rattle.info.specs.Lines.{rowsLine, quoted, nulls, fieldLine, columnLine, fieldLines, columnLines, reportText}
 
 quotes : quoted (codes "a \"b\\" ++ (10 ∷ 255 ∷ [])) ≡ codes "\"a \\x22b\\x5c\\x0a\\xff\""
 quotes = refl
 
 -- the second of two rows is null
-one-null : report (Ok (record {
+one-null : reportText (Ok (record {
   rows = 2;
   fields = tree (record { id = pos 4; required = false; name = codes "d"; shape = prim double }) none none;
   columns = tree (record { name = codes "d"; idText = Some (codes "4"); code = words float64; len = 2; validity = Some (1 ∷ []); offsets = []; body = [] }) none none;
 })) ≡ codes "rows 2\nfield 1 level 1 id 4 optional name \"d\" double\ncolumn 1 level 1 name \"d\" id \"4\" float64 length 2 nulls 1\n"
-unfolding fieldLine columnLine
+unfolding rowsLine fieldLine columnLine
 one-null = refl
 
 -- a field below the first, and one beside it
@@ -36,5 +36,5 @@ bare : columnLines 1 1 (tree (record { name = codes "t"; idText = None; code = s
 unfolding columnLine
 bare = refl
 
-refused : report (Err (record { number = 5; byte = 31; entry = field 2 })) ≡ codes "refused 5 byte 31 field 2\n"
+refused : reportText (Err (record { number = 5; byte = 31; entry = field 2 })) ≡ codes "refused 5 byte 31 field 2\n"
 refused = refl

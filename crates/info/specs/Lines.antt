@@ -120,7 +120,11 @@ fieldLines = lines fieldLine
 abbrev pub columnLines : ℕ → ℕ → Forest Column → List ℕ
 columnLines = lines columnLine
 
+-- the line of the number of rows, without its end
+unfoldable pub rowsLine : ℕ → List ℕ
+rowsLine n = codes "rows " ++ decimal n
+
 -- what is printed of a file that is read, or refused
-abbrev pub report : Result Model BatchFault → List ℕ
-report (Ok m) = codes "rows " ++ decimal (m .rows) ++ codes "\n" ++ fieldLines 1 1 (m .fields) ++ columnLines 1 1 (m .columns)
-report (Err f) = batchFaultLine f ++ codes "\n"
+abbrev pub reportText : Result Model BatchFault → List ℕ
+reportText (Ok m) = rowsLine (m .rows) ++ codes "\n" ++ fieldLines 1 1 (m .fields) ++ columnLines 1 1 (m .columns)
+reportText (Err f) = batchFaultLine f ++ codes "\n"

@@ -1,20 +1,8 @@
+mod describe;
 mod lines;
+mod listing;
 mod names;
 mod nulls;
 mod quoted;
-mod report;
 
-pub use lines::ColumnLine;
-pub use lines::ColumnLineDisplay;
-pub use lines::FieldLine;
-pub use lines::FieldLineDisplay;
-pub use lines::IdText;
-pub use lines::IdTextDisplay;
-pub use names::CodeName;
-pub use names::CodeNameDisplay;
-pub use names::TypeName;
-pub use names::TypeNameDisplay;
-pub use nulls::count_nulls;
-pub use quoted::Quoted;
-pub use quoted::QuotedDisplay;
-pub use report::report_refused;
+pub use describe::report;

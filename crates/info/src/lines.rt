@@ -17,26 +17,26 @@ use std::fmt;
 // A field with its number and its level, as
 // `field 1 level 1 id 4 optional name "d" double`.
 #[derive(Clone, Copy)]
-pub struct FieldLine<'a> {
-    pub level: usize,
-    pub number: usize,
-    pub field: Field<'a>,
+pub(crate) struct FieldLine<'a> {
+    pub(crate) level: usize,
+    pub(crate) number: usize,
+    pub(crate) field: Field<'a>,
 }
 
 // A column with its number and its level, as
 // `column 1 level 1 name "d" id "4" float64 length 2 nulls 1`.
 #[derive(Clone, Copy)]
-pub struct ColumnLine<'a> {
-    pub level: usize,
-    pub number: usize,
-    pub column: Column<'a>,
+pub(crate) struct ColumnLine<'a> {
+    pub(crate) level: usize,
+    pub(crate) number: usize,
+    pub(crate) column: Column<'a>,
 }
 
 // A column's id text, or `none`.
 #[derive(Clone, Copy)]
-pub struct IdText<'a>(pub Option<&'a [u8]>);
+pub(crate) struct IdText<'a>(pub(crate) Option<&'a [u8]>);
 
-pub impl fmt::Display for FieldLine<'_> as FieldLineDisplay {
+pub(crate) impl fmt::Display for FieldLine<'_> as FieldLineDisplay {
     ghost shown = { λ l. Some (fieldLine (l .level) (l .number) (fieldOf (l .field))) };
 
     fn fmt<W: fmt::Write>(&self, f: &mut fmt::Formatter<W>) -> fmt::Result {
@@ -52,7 +52,7 @@ pub impl fmt::Display for FieldLine<'_> as FieldLineDisplay {
     }
 }
 
-pub impl fmt::Display for IdText<'_> as IdTextDisplay {
+pub(crate) impl fmt::Display for IdText<'_> as IdTextDisplay {
     ghost shown = { λ t. Some (idText (maybePart (t .0))) };
 
     fn fmt<W: fmt::Write>(&self, f: &mut fmt::Formatter<W>) -> fmt::Result {
@@ -63,7 +63,7 @@ pub impl fmt::Display for IdText<'_> as IdTextDisplay {
     }
 }
 
-pub impl fmt::Display for ColumnLine<'_> as ColumnLineDisplay {
+pub(crate) impl fmt::Display for ColumnLine<'_> as ColumnLineDisplay {
     ghost shown = { λ l. Some (columnLine (l .level) (l .number) (columnOf (l .column))) };
 
     fn fmt<W: fmt::Write>(&self, f: &mut fmt::Formatter<W>) -> fmt::Result {

@@ -11,13 +11,13 @@ use std::fmt;
 
 // A field's type, as `long` or `fixed[16]`.
 #[derive(Clone, Copy)]
-pub struct TypeName(pub Kind);
+pub(crate) struct TypeName(pub(crate) Kind);
 
 // A column's code, as `utf8` or `fixed_size_binary[16]`.
 #[derive(Clone, Copy)]
-pub struct CodeName(pub Code);
+pub(crate) struct CodeName(pub(crate) Code);
 
-pub impl fmt::Display for TypeName as TypeNameDisplay {
+pub(crate) impl fmt::Display for TypeName as TypeNameDisplay {
     ghost shown = { λ t. Some (typeText (shapeOf (t .0))) };
 
     fn fmt<W: fmt::Write>(&self, f: &mut fmt::Formatter<W>) -> fmt::Result {
@@ -53,7 +53,7 @@ fn put_primitive<W: fmt::Write>(f: &mut fmt::Formatter<W>, primitive: Primitive)
     }
 }
 
-pub impl fmt::Display for CodeName as CodeNameDisplay {
+pub(crate) impl fmt::Display for CodeName as CodeNameDisplay {
     ghost shown = { λ c. Some (codeText (codeMeant (c .0))) };
 
     fn fmt<W: fmt::Write>(&self, f: &mut fmt::Formatter<W>) -> fmt::Result {

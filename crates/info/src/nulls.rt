@@ -6,7 +6,7 @@ ghost use Rattle.batch.specs.Views.{columnOf};
 use batch::Column;
 
 // How many of the column's slots are null.
-pub fn count_nulls(column: &Column) -> usize
+pub(crate) fn count_nulls(column: &Column) -> usize
     ensures { λ r. ⌜ r ≡ nulls (columnOf (now (column .entry))) ⌝ }
 {
     let Some(validity) = column.validity else {

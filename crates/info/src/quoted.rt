@@ -9,9 +9,9 @@ use std::fmt;
 
 // Bytes between double quotes.
 #[derive(Clone, Copy)]
-pub struct Quoted<'a>(pub &'a [u8]);
+pub(crate) struct Quoted<'a>(pub(crate) &'a [u8]);
 
-pub impl fmt::Display for Quoted<'_> as QuotedDisplay {
+pub(crate) impl fmt::Display for Quoted<'_> as QuotedDisplay {
     ghost shown = { λ q. Some (quoted (q .0 .now)) };
 
     fn fmt<W: fmt::Write>(&self, f: &mut fmt::Formatter<W>) -> fmt::Result {
