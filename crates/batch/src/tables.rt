@@ -3,8 +3,8 @@ ghost use mathlib.Core.Path.{_≡_};
 ghost use Rattle.batch.specs.Blank.{Blank};
 ghost use Rattle.std.specs.Of.Vec.{vec-items, vec-len};
 ghost use Rattle.std.specs.Vec.{made};
-ghost use lib.ListN.{length, replicate};
 use columns::ColumnEntry;
+use items::fill;
 use schema::FieldEntry;
 use std::alloc::AllocError;
 use std::alloc::Global;
@@ -39,14 +39,5 @@ impl Tables {
     {
         fill(self.fields.as_mut_slice(), FieldEntry::BLANK);
         fill(self.columns.as_mut_slice(), ColumnEntry::BLANK);
-    }
-}
-
-// Writes `x` into every element.
-fn fill<T: Copy>(items: &mut [T], x: T)
-    ensures { λ _. ⌜ now (items .exit) ≡ replicate (length (now (items .entry))) x ⌝ }
-{
-    for item in items.iter_mut() {
-        *item = x;
     }
 }

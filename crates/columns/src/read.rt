@@ -1,5 +1,6 @@
 ghost use Prim.Native.Nat.{ℕ, _+_, _*_, _≤_};
-ghost use lib.ListN.{length};
+ghost use lib.ListN.{length, replicate};
+ghost use mathlib.Core.Path.{_≡_};
 ghost use Rattle.meaning.specs.Columns as columns;
 ghost use Rattle.meaning.specs.Forest.{Forest};
 ghost use Rattle.meaning.specs.Model as model;
@@ -7,10 +8,10 @@ ghost use Rattle.items.specs.Cuts.{Fits, offsetsOf};
 ghost use Rattle.items.specs.Reading.{file};
 ghost use Rattle.items.specs.Tables.{Fills};
 ghost use Rattle.items.specs.Widths.{wide};
-ghost use Rattle.std.specs.Vec.{made};
+ghost use Rattle.std.specs.Vec.{made, refused};
 ghost use Rattle.columns.specs.Bodies.{listFrom};
 ghost use Rattle.columns.specs.Codes.{codeMeant};
-ghost use Rattle.columns.specs.Entries.{BodyInside, bodyMeant, columnTable, columnsIn, oneColumn};
+ghost use Rattle.columns.specs.Entries.{BodyInside, blank, bodyMeant, columnTable, columnsIn, oneColumn};
 ghost use Rattle.columns.specs.Needs.{needOf};
 ghost use Rattle.columns.specs.declared.entry.Body.{Body as Bod};
 use crate::body::read_id_text;
@@ -31,9 +32,32 @@ use fault::Refusal;
 use items::Offsets;
 use items::Reader;
 use items::Width;
+use items::fill;
 
 // The number of top columns of a batch, and its columns, each as long as there are rows. Gives the number that comes after them.
+// A refused reading leaves the reader where it was and the table blank.
 pub fn read_batch_columns(
+    reader: &mut Reader,
+    table: &mut [ColumnEntry],
+    rows: usize,
+) -> Result<usize, BatchFault>
+    ensures fills { λ r. ⌜ Fills columnTable (λ (m : ℕ). m) (λ _ (cs : Forest model.Column). cs) (columnsIn (length (now (table .entry))) rows) 1 (now (reader .entry)) (now (table .entry)) r (now (reader .exit)) (now (table .exit)) ⌝ }
+    ensures emptied { λ r. ⌜ refused r (λ _. now (table .exit) ≡ replicate (length (now (table .entry))) blank) ⌝ }
+    ensures stays { λ r. ⌜ refused r (λ _. now (reader .exit) .at ≡ now (reader .entry) .at) ⌝ }
+{
+    let start = reader.at;
+    match read_counted(reader, table, rows) {
+        Ok(end) => Ok(end),
+        Err(fault) => {
+            reader.at = start;
+            fill(table, ColumnEntry::BLANK);
+            Err(fault)
+        }
+    }
+}
+
+// The same, with whatever a refusal leaves.
+fn read_counted(
     reader: &mut Reader,
     table: &mut [ColumnEntry],
     rows: usize,

@@ -4,7 +4,7 @@ ghost use mathlib.Core.Bool.{Bool, true};
 ghost use Rattle.meaning.specs.Items as items;
 ghost use Rattle.fault.specs.Faults.{entryOf};
 ghost use Rattle.items.specs.Reading.{Inside, Reads, file, idFrom, part, rest};
-ghost use Rattle.std.specs.Vec.{made};
+ghost use Rattle.std.specs.Vec.{made, refused};
 ghost use lib.IntN.{ℤ};
 use crate::numeral::Number;
 use crate::numeral::number_at;
@@ -24,10 +24,11 @@ impl<'a> Reader<'a> {
 }
 
 impl Reader<'_> {
-    // The next `n` bytes as one item.
+    // The next `n` bytes as one item. Here and below, a reader that refuses an item stays where it was.
     pub fn exactly(&mut self, n: usize, entry: Entry) -> Result<Span, BatchFault>
         ensures reads { λ r. ⌜ Reads (part (file (now (self .entry)))) (items.exactly (entryOf entry) n) (now (self .entry)) r (now (self .exit)) ⌝ }
         ensures inside { λ r. ⌜ made r (Inside (file (now (self .entry)))) ⌝ }
+        ensures stays { λ r. ⌜ refused r (λ _. now (self .exit) .at ≡ now (self .entry) .at) ⌝ }
     {
         let start = self.at;
         if self.bytes.len() - start < n {
@@ -39,7 +40,8 @@ impl Reader<'_> {
 
     // The next byte, whatever it is.
     pub fn byte(&mut self, entry: Entry) -> Result<u8, BatchFault>
-        ensures { λ r. ⌜ Reads (λ (b : ℕ). b) (items.byte (entryOf entry) (λ _. true)) (now (self .entry)) r (now (self .exit)) ⌝ }
+        ensures reads { λ r. ⌜ Reads (λ (b : ℕ). b) (items.byte (entryOf entry) (λ _. true)) (now (self .entry)) r (now (self .exit)) ⌝ }
+        ensures stays { λ r. ⌜ refused r (λ _. now (self .exit) .at ≡ now (self .entry) .at) ⌝ }
     {
         let start = self.at;
         if start == self.bytes.len() {
@@ -51,11 +53,13 @@ impl Reader<'_> {
 
     // A byte that is 0 or 1.
     pub fn flag(&mut self, entry: Entry) -> Result<bool, BatchFault>
-        ensures { λ r. ⌜ Reads (λ (b : Bool). b) (items.flag (entryOf entry)) (now (self .entry)) r (now (self .exit)) ⌝ }
+        ensures reads { λ r. ⌜ Reads (λ (b : Bool). b) (items.flag (entryOf entry)) (now (self .entry)) r (now (self .exit)) ⌝ }
+        ensures stays { λ r. ⌜ refused r (λ _. now (self .exit) .at ≡ now (self .entry) .at) ⌝ }
     {
         let start = self.at;
         let b = self.byte(entry)?;
         if b > 1 {
+            self.at = start;
             return Err(BatchFault::new(Refusal::Code, start, entry));
         }
         Ok(b == 1)
@@ -63,7 +67,8 @@ impl Reader<'_> {
 
     // A number, in groups of seven bits.
     pub fn number(&mut self, entry: Entry) -> Result<u32, BatchFault>
-        ensures { λ r. ⌜ Reads (λ (v : ℕ). v) (items.number (entryOf entry)) (now (self .entry)) r (now (self .exit)) ⌝ }
+        ensures reads { λ r. ⌜ Reads (λ (v : ℕ). v) (items.number (entryOf entry)) (now (self .entry)) r (now (self .exit)) ⌝ }
+        ensures stays { λ r. ⌜ refused r (λ _. now (self .exit) .at ≡ now (self .entry) .at) ⌝ }
     {
         let start = self.at;
         match number_at(&self.bytes[start..]) {
@@ -78,11 +83,13 @@ impl Reader<'_> {
 
     // A number that may not pass a limit.
     pub fn limited(&mut self, most: u32, entry: Entry) -> Result<u32, BatchFault>
-        ensures { λ r. ⌜ Reads (λ (v : ℕ). v) (items.limited (entryOf entry) most) (now (self .entry)) r (now (self .exit)) ⌝ }
+        ensures reads { λ r. ⌜ Reads (λ (v : ℕ). v) (items.limited (entryOf entry) most) (now (self .entry)) r (now (self .exit)) ⌝ }
+        ensures stays { λ r. ⌜ refused r (λ _. now (self .exit) .at ≡ now (self .entry) .at) ⌝ }
     {
         let start = self.at;
         let v = self.number(entry)?;
         if v > most {
+            self.at = start;
             return Err(BatchFault::new(Refusal::Limit, start, entry));
         }
         Ok(v)
@@ -92,14 +99,17 @@ impl Reader<'_> {
     pub fn text(&mut self, entry: Entry) -> Result<Span, BatchFault>
         ensures reads { λ r. ⌜ Reads (part (file (now (self .entry)))) (items.text (entryOf entry)) (now (self .entry)) r (now (self .exit)) ⌝ }
         ensures inside { λ r. ⌜ made r (Inside (file (now (self .entry)))) ⌝ }
+        ensures stays { λ r. ⌜ refused r (λ _. now (self .exit) .at ≡ now (self .entry) .at) ⌝ }
     {
         let start = self.at;
         let len = self.number(entry)? as usize;
         let first = self.at;
         if self.bytes.len() - first < len {
+            self.at = start;
             return Err(BatchFault::new(Refusal::Cut, start, entry));
         }
         if len > 255 {
+            self.at = start;
             return Err(BatchFault::new(Refusal::Limit, start, entry));
         }
         self.at = first + len;
@@ -108,7 +118,8 @@ impl Reader<'_> {
 
     // A field's id: four bytes, signed.
     pub fn id(&mut self, entry: Entry) -> Result<i32, BatchFault>
-        ensures { λ r. ⌜ Reads (λ (z : ℤ). z) (idFrom (entryOf entry)) (now (self .entry)) r (now (self .exit)) ⌝ }
+        ensures reads { λ r. ⌜ Reads (λ (z : ℤ). z) (idFrom (entryOf entry)) (now (self .entry)) r (now (self .exit)) ⌝ }
+        ensures stays { λ r. ⌜ refused r (λ _. now (self .exit) .at ≡ now (self .entry) .at) ⌝ }
     {
         let start = self.at;
         let _ = self.exactly(4, entry)?;

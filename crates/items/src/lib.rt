@@ -1,9 +1,11 @@
+mod blank;
 mod item;
 mod numeral;
 mod offsets;
 mod reader;
 mod width;
 
+pub use blank::fill;
 pub use numeral::Number;
 pub use numeral::number_at;
 pub use reader::Offsets;

@@ -8,7 +8,7 @@ ghost use Rattle.fault.specs.Faults.{entryOf};
 ghost use Rattle.items.specs.Cuts.{offsetAfter, offsetsOf, Standing};
 ghost use Rattle.items.specs.Reading.{Reads, file};
 ghost use Rattle.items.specs.Widths.{wide};
-ghost use Rattle.std.specs.Vec.{made};
+ghost use Rattle.std.specs.Vec.{made, refused};
 ghost use Rattle.std.specs.declared.option.Option.the-variants.{None};
 use crate::reader::Offsets;
 use crate::reader::Reader;
@@ -36,11 +36,18 @@ impl Reader<'_> {
     pub fn offsets(&mut self, width: Width, count: usize, n: usize) -> Result<Offsets, BatchFault>
         ensures reads { λ r. ⌜ Reads (offsetsOf (file (now (self .entry)))) (columns.offsets (wide width) n count 0) (now (self .entry)) r (now (self .exit)) ⌝ }
         ensures stand { λ r. ⌜ made r (Standing (file (now (self .entry))) width count) ⌝ }
+        ensures stays { λ r. ⌜ refused r (λ _. now (self .exit) .at ≡ now (self .entry) .at) ⌝ }
     {
         let start = self.at;
         let mut last = 0;
         for _ in 0..count {
-            last = self.offset(width, last, Entry::Column(n))?;
+            last = match self.offset(width, last, Entry::Column(n)) {
+                Ok(value) => value,
+                Err(fault) => {
+                    self.at = start;
+                    return Err(fault);
+                }
+            };
         }
         Ok(Offsets {
             width,

@@ -1,10 +1,12 @@
 ghost use Prim.Native.Nat.{ℕ, _+_, _≤_};
-ghost use lib.ListN.{length};
+ghost use lib.ListN.{length, replicate};
+ghost use mathlib.Core.Path.{_≡_};
+ghost use Rattle.std.specs.Vec.{refused};
 ghost use Rattle.meaning.specs.Forest.{Forest};
 ghost use Rattle.meaning.specs.Model as model;
 ghost use Rattle.meaning.specs.Schema as schema;
 ghost use Rattle.schema.specs.Forms.{shapeOf};
-ghost use Rattle.schema.specs.Fields.{fieldTable, oneField, schemaIn};
+ghost use Rattle.schema.specs.Fields.{blank, fieldTable, oneField, schemaIn};
 ghost use Rattle.items.specs.Tables.{Fills};
 ghost use Rattle.schema.specs.declared.types.Kind.{Kind as Kin};
 use crate::code::Form;
@@ -16,9 +18,28 @@ use fault::BatchFault;
 use fault::Entry;
 use fault::Refusal;
 use items::Reader;
+use items::fill;
 
 // The number of fields of a schema, and its fields. Gives the number that comes after them.
+// A refused reading leaves the reader where it was and the table blank.
 pub fn read_schema(reader: &mut Reader, table: &mut [FieldEntry]) -> Result<usize, BatchFault>
+    ensures fills { λ r. ⌜ Fills fieldTable (λ (m : ℕ). m) (λ _ (fs : Forest model.Field). fs) (schemaIn (length (now (table .entry)))) 1 (now (reader .entry)) (now (table .entry)) r (now (reader .exit)) (now (table .exit)) ⌝ }
+    ensures emptied { λ r. ⌜ refused r (λ _. now (table .exit) ≡ replicate (length (now (table .entry))) blank) ⌝ }
+    ensures stays { λ r. ⌜ refused r (λ _. now (reader .exit) .at ≡ now (reader .entry) .at) ⌝ }
+{
+    let start = reader.at;
+    match read_counted(reader, table) {
+        Ok(end) => Ok(end),
+        Err(fault) => {
+            reader.at = start;
+            fill(table, FieldEntry::BLANK);
+            Err(fault)
+        }
+    }
+}
+
+// The same, with whatever a refusal leaves.
+fn read_counted(reader: &mut Reader, table: &mut [FieldEntry]) -> Result<usize, BatchFault>
     ensures { λ r. ⌜ Fills fieldTable (λ (m : ℕ). m) (λ _ (fs : Forest model.Field). fs) (schemaIn (length (now (table .entry)))) 1 (now (reader .entry)) (now (table .entry)) r (now (reader .exit)) (now (table .exit)) ⌝ }
 {
     if table.len() < 256 {

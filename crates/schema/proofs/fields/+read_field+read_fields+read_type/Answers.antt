@@ -23,8 +23,8 @@ use Rattle.schema.proofs.fields.+read_field+read_fields+read_type.Needs as nee
 pub read-field-returns-in-Break-kind : need.read-field-returns-in-Break-kind
 read-field-returns-in-Break-kind t c =
     let p = err-from-errBy (c .from-residual-in-Break-kind .result) (c .from-residual-in-Break-kind .ensures .1) in
-    let i = c .in-Continue-id .ensures tt in
-    let f = c .in-Continue-required .ensures tt in
+    let i = c .in-Continue-id .ensures tt .reads in
+    let f = c .in-Continue-required .ensures tt .reads in
     let n = c .in-Continue-name .ensures tt .reads in
     let b = c .in-Break-kind .ensures tt in
     refuses fieldTable (p .0) (c .in-Break-kind .field-0 .0) (b .same ∙ n .same ∙ f .same ∙ i .same) (p .1) (p .2)
@@ -35,8 +35,8 @@ read-field-returns-in-Break-kind t c =
 pub read-field-returns : need.read-field-returns
 read-field-returns t c =
     let z : toZ w32 (ofZ w32 (c .in-Continue-id .id)) ≡ c .in-Continue-id .id = search needs in
-    let i = c .in-Continue-id .ensures tt in
-    let f = c .in-Continue-required .ensures tt in
+    let i = c .in-Continue-id .ensures tt .reads in
+    let f = c .in-Continue-required .ensures tt .reads in
     let n = c .in-Continue-name .ensures tt .reads in
     let d = c .in-Continue-kind .ensures tt in
     field-read (c .args .level) (c .args .key) (c .args .n) (c .args .reader .now) (c .id .last .self) (c .flag .last .self) (c .text .last .self) (c .read-type .last .reader)
@@ -72,8 +72,8 @@ read-fields-returns t c =
 pub read-type-returns-in-Break-len : need.read-type-returns-in-Break-len
 read-type-returns-in-Break-len t c =
     let p = err-from-errBy (c .from-residual-in-Break-len .result) (c .from-residual-in-Break-len .ensures .1) in
-    let k = c .in-Continue-code .ensures tt in
-    let b = c .in-Break-len .ensures tt in
+    let k = c .in-Continue-code .ensures tt .reads in
+    let b = c .in-Break-len .ensures tt .reads in
     refuses fieldTable (p .0) (c .in-Break-len .field-0 .0) (b .same ∙ k .same) (p .1) (p .2)
     (ap (carry (λ k. give (heldBy (prim (fixed k)) none))) (b .does)
     ∙ by-form (fields (c .args .level)) (c .args .key) (c .args .n) (c .in-Continue-code .code) (c .in-Some .form) Sized (rest (c .args .reader .now)) (rest (c .byte .last .self))
@@ -81,7 +81,7 @@ read-type-returns-in-Break-len t c =
 
 pub read-type-returns-in-Plain : need.read-type-returns-in-Plain
 read-type-returns-in-Plain t c =
-    let k = c .in-Continue-code .ensures tt in
+    let k = c .in-Continue-code .ensures tt .reads in
     record {
       same = k .same;
       does = (
@@ -94,8 +94,8 @@ read-type-returns-in-Plain t c =
 
 pub read-type-returns-in-Continue-len : need.read-type-returns-in-Continue-len
 read-type-returns-in-Continue-len t c =
-    let k = c .in-Continue-code .ensures tt in
-    let d = c .in-Continue-len .ensures tt in
+    let k = c .in-Continue-code .ensures tt .reads in
+    let d = c .in-Continue-len .ensures tt .reads in
     record {
       same = d .same ∙ k .same;
       does = (

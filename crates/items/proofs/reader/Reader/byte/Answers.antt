@@ -8,10 +8,16 @@ use Rattle.items.proofs.reader.Reader.byte.Needs as need
 pub returns-then-start-self : need.returns-then-start-self
 returns-then-start-self c =
     record {
-      same = refl;
-      does = ap Err (c .new .ensures) ∙ byte-cut (c .args .self .now .bytes .now) (c .args .self .now .at) (entryOf (c .args .entry)) (omega arith);
+      reads = record {
+        same = refl;
+        does = ap Err (c .new .ensures) ∙ byte-cut (c .args .self .now .bytes .now) (c .args .self .now .at) (entryOf (c .args .entry)) (omega arith);
+      };
+      stays = refl;
     }
 
 pub returns : need.returns
 returns c =
-    record { same = refl; does = byte-there (c .args .self .now .bytes .now) (c .args .self .now .at) (entryOf (c .args .entry)) (omega arith) }
+    record {
+      reads = record { same = refl; does = byte-there (c .args .self .now .bytes .now) (c .args .self .now .at) (entryOf (c .args .entry)) (omega arith) };
+      stays = tt;
+    }

@@ -12,8 +12,11 @@ returns c =
     let after = c .exactly .last .self in
     let read = c .in-Continue-exactly .ensures tt .reads in
     record {
-      same = read .same;
-      does =
-          id-there (before .bytes .now) (after .bytes .now) (before .at) (entryOf (c .args .entry)) (part (before .bytes .now) (c .in-Continue-exactly .field-0)) (rest after) _ (read .same) (read .does)
-          (toZ-ofZ {w = w32} {z = c .from-le-bytes .result} (record { sfits = c .from-le-bytes .ok }) ∙ c .from-le-bytes .ensures);
+      reads = record {
+        same = read .same;
+        does =
+            id-there (before .bytes .now) (after .bytes .now) (before .at) (entryOf (c .args .entry)) (part (before .bytes .now) (c .in-Continue-exactly .field-0)) (rest after) _ (read .same) (read .does)
+            (toZ-ofZ {w = w32} {z = c .from-le-bytes .result} (record { sfits = c .from-le-bytes .ok }) ∙ c .from-le-bytes .ensures);
+      };
+      stays = tt;
     }

@@ -8,20 +8,29 @@ use Rattle.items.proofs.reader.Reader.number.Needs as need
 pub returns-in-Value : need.returns-in-Value
 returns-in-Value c =
     record {
-      same = refl;
-      does = number-there (c .args .self .now .bytes .now) (c .args .self .now .at) (entryOf (c .args .entry)) (c .in-Value .value) (c .in-Value .len) (c .in-Value .ensures tt);
+      reads = record {
+        same = refl;
+        does = number-there (c .args .self .now .bytes .now) (c .args .self .now .at) (entryOf (c .args .entry)) (c .in-Value .value) (c .in-Value .len) (c .in-Value .ensures tt);
+      };
+      stays = tt;
     }
 
 pub returns-in-Cut : need.returns-in-Cut
 returns-in-Cut c =
     record {
-      same = refl;
-      does = ap Err (c .new .ensures) ∙ number-is (c .args .self .now .bytes .now) (c .args .self .now .at) (entryOf (c .args .entry)) cut (c .in-Cut .ensures tt);
+      reads = record {
+        same = refl;
+        does = ap Err (c .new .ensures) ∙ number-is (c .args .self .now .bytes .now) (c .args .self .now .at) (entryOf (c .args .entry)) cut (c .in-Cut .ensures tt);
+      };
+      stays = refl;
     }
 
 pub returns-in-Long : need.returns-in-Long
 returns-in-Long c =
     record {
-      same = refl;
-      does = ap Err (c .new-in-Long .ensures) ∙ number-is (c .args .self .now .bytes .now) (c .args .self .now .at) (entryOf (c .args .entry)) long (c .in-Long .ensures tt);
+      reads = record {
+        same = refl;
+        does = ap Err (c .new-in-Long .ensures) ∙ number-is (c .args .self .now .bytes .now) (c .args .self .now .at) (entryOf (c .args .entry)) long (c .in-Long .ensures tt);
+      };
+      stays = refl;
     }

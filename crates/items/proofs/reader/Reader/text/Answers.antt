@@ -13,26 +13,28 @@ pub returns-then-self-first : need.returns-then-self-first
 returns-then-self-first c =
     record {
       reads = record {
-        same = c .in-Continue-len .ensures tt .same;
+        same = c .in-Continue-len .ensures tt .reads .same;
         does =
             ap Err (c .new .ensures)
             ∙ text-cut (c .number .last .self .bytes .now) (c .args .self .now .at) (c .number .last .self .at) (c .in-Continue-len .field-0) (entryOf (c .args .entry)) (omega arith)
-            ∙ ap (carry (textFrom (entryOf (c .args .entry)) (c .args .self .now .at))) (c .in-Continue-len .ensures tt .does);
+            ∙ ap (carry (textFrom (entryOf (c .args .entry)) (c .args .self .now .at))) (c .in-Continue-len .ensures tt .reads .does);
       };
       inside = tt;
+      stays = refl;
     }
 
 pub returns-then-len-gt255 : need.returns-then-len-gt255
 returns-then-len-gt255 c =
     record {
       reads = record {
-        same = c .in-Continue-len .ensures tt .same;
+        same = c .in-Continue-len .ensures tt .reads .same;
         does =
             ap Err (c .new-then-len-gt255 .ensures)
             ∙ text-long (c .number .last .self .bytes .now) (c .args .self .now .at) (c .number .last .self .at) (c .in-Continue-len .field-0) (entryOf (c .args .entry)) (omega arith) (omega arith)
-            ∙ ap (carry (textFrom (entryOf (c .args .entry)) (c .args .self .now .at))) (c .in-Continue-len .ensures tt .does);
+            ∙ ap (carry (textFrom (entryOf (c .args .entry)) (c .args .self .now .at))) (c .in-Continue-len .ensures tt .reads .does);
       };
       inside = tt;
+      stays = refl;
     }
 
 pub returns : need.returns
@@ -41,11 +43,12 @@ returns c =
     let n = c .in-Continue-len .field-0 in
     record {
       reads = record {
-        same = c .in-Continue-len .ensures tt .same;
+        same = c .in-Continue-len .ensures tt .reads .same;
         does =
-            ap (λ bs. Ok (take n (drop (after .at) bs), from (after .bytes .now) (after .at + n))) (sym (c .in-Continue-len .ensures tt .same))
+            ap (λ bs. Ok (take n (drop (after .at) bs), from (after .bytes .now) (after .at + n))) (sym (c .in-Continue-len .ensures tt .reads .same))
             ∙ text-there (after .bytes .now) (c .args .self .now .at) (after .at) n (entryOf (c .args .entry)) (omega arith) (omega arith)
-            ∙ ap (carry (textFrom (entryOf (c .args .entry)) (c .args .self .now .at))) (c .in-Continue-len .ensures tt .does);
+            ∙ ap (carry (textFrom (entryOf (c .args .entry)) (c .args .self .now .at))) (c .in-Continue-len .ensures tt .reads .does);
       };
-      inside = omega (arith, ap length (c .in-Continue-len .ensures tt .same));
+      inside = omega (arith, ap length (c .in-Continue-len .ensures tt .reads .same));
+      stays = tt;
     }

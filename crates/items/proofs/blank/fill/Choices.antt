@@ -1,6 +1,6 @@
 use mathlib.Core.Path.{_≡_}
 use lib.ListN.{take, replicate}
-use Rattle.batch.proofs.tables.fill.Given as given
+use Rattle.items.proofs.blank.fill.Given as given
 
 -- what is passed is written
 abbrev pub Inv-loop-item : given.InvT-loop-item

@@ -1,6 +1,6 @@
 use native.Mathlib.Omega.{arith}
-use Rattle.batch.proofs.Filling.{one-more, all-done}
-use Rattle.batch.proofs.tables.fill.Needs as need
+use Rattle.items.proofs.Blanking.{one-more, all-done}
+use Rattle.items.proofs.blank.fill.Needs as need
 
 pub loop-item-again : need.loop-item-again
 loop-item-again g c = one-more (c .loop-item .items) (c .loop-item .item-index) (c .args .x) (c .loop-item .inv) (omega arith)
