@@ -2,11 +2,9 @@ ghost use mathlib.Core.Path.{_≡_};
 ghost use Rattle.fault.specs.Faults.{batchFaultAt, batchFaultOf, stepFaultAt, stepFaultOf};
 ghost use Rattle.fault.specs.declared.faults.RunFault.the-variants.{Batch, Step};
 use crate::refusal::Refusal;
-use crate::refusal::RefusalDebug;
-use crate::refusal::RefusalPartialEq;
 
 // Whose item was refused: the file's own numbers, a field or a column.
-#[derive(Clone, Copy, PartialEq, Eq, Debug)]
+#[derive(Clone, Copy)]
 pub enum Entry {
     Head,
     Field(usize),
@@ -14,21 +12,21 @@ pub enum Entry {
 }
 
 // A refusal, and the byte at which the refused item begins.
-#[derive(Clone, Copy, PartialEq, Eq, Debug)]
+#[derive(Clone, Copy)]
 pub struct BytesFault {
     pub refusal: Refusal,
     pub byte: usize,
 }
 
 // A bytes fault whole, and the entry whose item it is.
-#[derive(Clone, Copy, PartialEq, Eq, Debug)]
+#[derive(Clone, Copy)]
 pub struct BatchFault {
     pub bytes: BytesFault,
     pub entry: Entry,
 }
 
 // A refused step: the column that was questioned, and the field.
-#[derive(Clone, Copy, PartialEq, Eq, Debug)]
+#[derive(Clone, Copy)]
 pub struct StepFault {
     pub refusal: Refusal,
     pub column: usize,
@@ -36,7 +34,7 @@ pub struct StepFault {
 }
 
 // Why a run ended: a fault of the file or of a step, whole.
-#[derive(Clone, Copy, PartialEq, Eq, Debug)]
+#[derive(Clone, Copy)]
 pub enum RunFault {
     Batch(BatchFault),
     Step(StepFault),
