@@ -33,6 +33,7 @@ abbrev pub orEmpty : Result Model items.BatchFault → Model
 orEmpty (Ok m) = m
 orEmpty (Err e) = record { rows = 0; fields = none; columns = none }
 
+-- what a file means, once it is known to be accepted
 abbrev pub decoded : List ℕ → Model
 decoded bytes = orEmpty (decode bytes)
 
@@ -52,5 +53,6 @@ abbrev pub Answers : Result Model items.BatchFault → List ℕ → Result Sizes
 Answers meant bytes (Ok sizes) fields columns = (m : Model) × (Ok m ≡ meant) × Counted m sizes × Standing bytes m fields columns
 Answers meant bytes (Err e) fields columns = Err (batchFaultOf e) ≡ meant
 
+-- what was read into tables of so many entries
 pub record Loaded (nf nc : ℕ) (bytes : List ℕ) (result : Result Sizes BatchFault) (fields : List FieldEntry) (columns : List ColumnEntry) : Type 0 where
   pub does : Answers (readIn nf nc bytes) bytes result fields columns

@@ -10,6 +10,7 @@ use Rattle.columns.specs.declared.code.Code.the-variants as code
 abbrev pub listed : ℕ → Bool
 listed c = leb 1 c && (leb c 20 && cond (eqb c 6) false true)
 
+-- the column code of the definitions that a code stands for
 abbrev pub codeMeant : Code → model.Code
 codeMeant code.Boolean = model.bits
 codeMeant code.Int32 = model.words model.int32

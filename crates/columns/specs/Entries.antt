@@ -26,6 +26,7 @@ use Rattle.columns.specs.Codes.{codeMeant}
 abbrev pub noBytes : Span
 noBytes = record { start = 0; len = 0 }
 
+-- no offsets, for a column that has none
 abbrev pub noOffsets : Offsets
 noOffsets = record { width = Four; count = 0; start = 0 }
 
@@ -58,6 +59,7 @@ pub record Fitting (bytes : List ℕ) (e : ColumnEntry) : Type 0 where
   pub offsets : Fits bytes (e .offsets)
   pub body : Inside bytes (e .body)
 
+-- the table of columns as a kind of table
 abbrev pub columnTable : Layout ColumnEntry model.Column
 columnTable = record { blank = blank; fits = Fitting; says = columnOf; end = λ e. e .end }
 

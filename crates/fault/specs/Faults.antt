@@ -23,6 +23,7 @@ entryOf (Column n) = items.column n
 abbrev pub batchFaultAt : Refusal → ℕ → Entry → items.BatchFault
 batchFaultAt r b e = record { number = numberOf r; byte = b; entry = entryOf e }
 
+-- what a batch fault says
 abbrev pub batchFaultOf : BatchFault → items.BatchFault
 batchFaultOf f = batchFaultAt (f .bytes .refusal) (f .bytes .byte) (f .entry)
 
@@ -30,6 +31,7 @@ batchFaultOf f = batchFaultAt (f .bytes .refusal) (f .bytes .byte) (f .entry)
 abbrev pub stepFaultAt : Refusal → ℕ → ℕ → access.StepFault
 stepFaultAt r c f = record { number = numberOf r; column = c; field = f }
 
+-- what a step fault says
 abbrev pub stepFaultOf : StepFault → access.StepFault
 stepFaultOf f = stepFaultAt (f .refusal) (f .column) (f .field)
 

@@ -23,6 +23,7 @@ printable b = leb 32 b && (leb b 126 && (not (eqb b 34) && not (eqb b 92)))
 abbrev pub quotedByte : ℕ → List ℕ
 quotedByte b = cond (printable b) (b ∷ []) (codes "\\x" ++ hex 2 b)
 
+-- bytes one after the other
 abbrev pub escaped : List ℕ → List ℕ
 escaped [] = []
 escaped (b ∷ bs) = quotedByte b ++ escaped bs
@@ -31,6 +32,7 @@ escaped (b ∷ bs) = quotedByte b ++ escaped bs
 abbrev pub quoted : List ℕ → List ℕ
 quoted bs = codes "\"" ++ escaped bs ++ codes "\""
 
+-- the names of the Iceberg table specification
 abbrev pub primitiveText : Primitive → List ℕ
 primitiveText boolean = codes "boolean"
 primitiveText int = codes "int"
@@ -55,6 +57,7 @@ typeText struct = codes "struct"
 typeText list = codes "list"
 typeText map = codes "map"
 
+-- the names that Arrow programs print
 abbrev pub wordText : Word → List ℕ
 wordText int32 = codes "int32"
 wordText int64 = codes "int64"
@@ -65,6 +68,7 @@ wordText time64 = codes "time64[us]"
 wordText micros = codes "timestamp[us]"
 wordText nanos = codes "timestamp[ns]"
 
+-- the same for bytes of any length
 abbrev pub variableText : Variable → List ℕ
 variableText utf8 = codes "utf8"
 variableText largeUtf8 = codes "large_utf8"
@@ -92,6 +96,7 @@ abbrev pub idText : Option (List ℕ) → List ℕ
 idText None = codes "none"
 idText (Some bs) = quoted bs
 
+-- whether a field may be null
 abbrev pub requiredText : Bool → List ℕ
 requiredText true = codes "required"
 requiredText false = codes "optional"
@@ -110,13 +115,16 @@ columnLine level n x =
 
 -- trees side by side at a level, the first of them number n, in the order of their numbers
 module _ {H : Type 0} (line : ℕ → ℕ → H → List ℕ) where
+  -- each line is followed by those of the trees below it, one level deeper
   abbrev pub lines : ℕ → ℕ → Forest H → List ℕ
   lines level n none = []
   lines level n (tree h below rest) = line level n h ++ codes "\n" ++ lines (level + 1) (n + 1) below ++ lines level (n + 1 + size below) rest
 
+-- the lines of a schema
 abbrev pub fieldLines : ℕ → ℕ → Forest Field → List ℕ
 fieldLines = lines fieldLine
 
+-- the lines of the columns
 abbrev pub columnLines : ℕ → ℕ → Forest Column → List ℕ
 columnLines = lines columnLine
 

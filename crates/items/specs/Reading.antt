@@ -18,6 +18,7 @@ use Rattle.items.specs.declared.reader.Span.{Span}
 abbrev pub file : Reader → List ℕ
 file r = now (r .bytes)
 
+-- what is left to read
 abbrev pub rest : Reader → Rest
 rest r = record { bytes = drop (r .at) (file r); at = r .at }
 

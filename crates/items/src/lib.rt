@@ -6,8 +6,6 @@ mod reader;
 mod width;
 
 pub use blank::fill;
-pub use numeral::Number;
-pub use numeral::number_at;
 pub use reader::Offsets;
 pub use reader::Reader;
 pub use reader::Span;

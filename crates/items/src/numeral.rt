@@ -4,14 +4,14 @@ ghost use Rattle.items.specs.Numerals.{meant};
 
 // What the bytes at the front of a slice give as a number: its value and how many bytes it has, or why there is none.
 #[derive(Clone, Copy)]
-pub enum Number {
+pub(crate) enum Number {
     Value(u32, usize),
     Cut,
     Long,
 }
 
 // Groups of seven bits, lowest first, bit 7 set on every byte but the last; at most five bytes, the fifth below 16.
-pub fn number_at(bytes: &[u8]) -> Number
+pub(crate) fn number_at(bytes: &[u8]) -> Number
     ensures { λ r. ⌜ meant r ≡ numeral′ (now (bytes .entry)) ⌝ }
 {
     let mut value: u32 = 0;

@@ -23,6 +23,7 @@ blank = record { id = pos 0; required = false; name = record { start = 0; len = 
 abbrev pub fieldOf : List ℕ → FieldEntry → model.Field
 fieldOf bytes f = record { id = f .id; required = f .required; name = part bytes (f .name); shape = shapeOf (f .kind) }
 
+-- the table of fields as a kind of table
 abbrev pub fieldTable : Layout FieldEntry model.Field
 fieldTable = record { blank = blank; fits = λ bytes e. Inside bytes (e .name); says = fieldOf; end = λ e. e .end }
 

@@ -15,6 +15,7 @@ use Rattle.schema.specs.declared.types.Kind.the-variants as kind
 use Rattle.schema.specs.declared.code.Form.{Form}
 use Rattle.schema.specs.declared.code.Form.the-variants.{Plain, Sized, Group, One, Pair, Decimal}
 
+-- the primitive type that a type stands for
 abbrev pub primOf : Primitive → model.Primitive
 primOf Boolean = model.boolean
 primOf Int = model.int
@@ -32,12 +33,14 @@ primOf Uuid = model.uuid
 primOf (Fixed n) = model.fixed n
 primOf Binary = model.binary
 
+-- a type without the fields that it holds
 abbrev pub shapeOf : Kind → model.Shape
 shapeOf (kind.Primitive p) = model.prim (primOf p)
 shapeOf kind.Struct = model.struct
 shapeOf kind.List = model.list
 shapeOf kind.Map = model.map
 
+-- how a type goes on after its code
 abbrev pub formed : Form → schema.Kind
 formed (Plain p) = schema.plain (primOf p)
 formed Sized = schema.sized
@@ -46,6 +49,7 @@ formed One = schema.one
 formed Pair = schema.pair
 formed Decimal = schema.decimal
 
+-- the one listed type that is not ported
 abbrev pub decimal? : Form → Bool
 decimal? (Plain p) = false
 decimal? Sized = false

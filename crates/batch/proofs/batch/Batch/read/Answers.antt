@@ -12,8 +12,10 @@ ghost-result c =
     let l = c .in-Ok .ensures tt in
     let fs = written (c .args .tables .fields) (c .load .last .fields) (c .as-mut-slice .result .now) (c .load .kept .fields) (c .as-mut-slice .ensures .len) in
     let cs = written (c .args .tables .columns) (c .load .last .columns) (c .as-mut-slice-2 .result .now) (c .load .kept .columns) (c .as-mut-slice-2 .ensures .len) in
-    let b = all-bytes (c .args .bytes .now) (λ i. omega (arith, c .typed .bytes i)) in
-    (is-accepted l, (is-counted l, (is-roomy b l _ _ (c .as-mut-slice .ensures .len) (c .as-mut-slice-2 .ensures .len), (∣ is-standing l _ _ fs cs ∣₁, tt))))
+    let b = all-bytes (c .args .bytes .now) (λ i. omega (arith, c .typed .bytes i)) in (
+      is-accepted l,
+      (∣ keeps-rules (c .args .bytes .now) b (is-accepted l) .0 ∣₁, (is-counted l, (is-roomy b l _ _ (c .as-mut-slice .ensures .len) (c .as-mut-slice-2 .ensures .len), (∣ is-standing l _ _ fs cs ∣₁, tt)))),
+    )
 
 pub returns-in-Ok : need.returns-in-Ok
 returns-in-Ok c =
