@@ -4,6 +4,7 @@ use mathlib.Core.List.{List}
 use mathlib.Core.Path.{_≡_}
 use Prim.Native.Nat.{ℕ}
 use denote.Ref.{now}
+use Rattle.std.specs.Of.Vec.{vec-len}
 use Rattle.std.specs.declared.result.Result.{Result}
 use Rattle.std.specs.declared.result.Result.the-variants.{Ok, Err}
 use Rattle.meaning.specs.Model.{Model}
@@ -25,10 +26,10 @@ abbrev pub said : Result Batch Unread → Result Model items.BatchFault
 said (Ok b) = Ok (model b)
 said (Err u) = Err (batchFaultOf (u .fault))
 
--- a batch is of the file that was handed over
-abbrev pub Same : List ℕ → Result Batch Unread → Type 0
-Same bytes (Ok b) = now (b .bytes) ≡ bytes
-Same bytes (Err u) = Unit {0}
+-- a batch is of the file that was handed over, and holds the tables that were, with as many entries
+abbrev pub Same : ℕ → ℕ → List ℕ → Result Batch Unread → Type 0
+Same nf nc bytes (Ok b) = (now (b .bytes) ≡ bytes) × (vec-len (b .tables .fields) ≡ nf) × (vec-len (b .tables .columns) ≡ nc)
+Same nf nc bytes (Err u) = Unit {0}
 
 -- a refused reading gives the tables back blank, with as many entries as before
 abbrev pub Emptied : ℕ → ℕ → Result Batch Unread → Type 0

@@ -12,7 +12,7 @@ impl<'a> Batch<'a> {
     // Reads a batch file. The work tables are handed over: an accepted file keeps them, a refused one gives them back blank.
     pub fn read(bytes: &'a [u8], tables: Tables) -> Result<Batch<'a>, Unread>
         ensures decodes { λ r. ⌜ said r ≡ readIn (vec-len (tables .fields)) (vec-len (tables .columns)) (now (bytes .entry)) ⌝ }
-        ensures same { λ r. ⌜ Same (now (bytes .entry)) r ⌝ }
+        ensures same { λ r. ⌜ Same (vec-len (tables .fields)) (vec-len (tables .columns)) (now (bytes .entry)) r ⌝ }
         ensures emptied { λ r. ⌜ Emptied (vec-len (tables .fields)) (vec-len (tables .columns)) r ⌝ }
         ensures lawful { λ r. ⌜ Lawful (vec-len (tables .fields)) (vec-len (tables .columns)) (now (bytes .entry)) r ⌝ }
     {

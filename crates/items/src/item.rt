@@ -1,8 +1,9 @@
-ghost use Prim.Native.Nat.{ℕ};
+ghost use Prim.Native.Nat.{ℕ, _+_};
 ghost use mathlib.Core.Path.{_≡_};
 ghost use mathlib.Core.Bool.{Bool, true};
 ghost use Rattle.meaning.specs.Items as items;
 ghost use Rattle.fault.specs.Faults.{entryOf};
+ghost use Rattle.items.specs.declared.reader.Span.{Span as Spa};
 ghost use Rattle.items.specs.Reading.{Inside, Reads, file, idFrom, part, rest};
 ghost use Rattle.std.specs.Vec.{made, refused};
 ghost use lib.IntN.{ℤ};
@@ -28,6 +29,7 @@ impl Reader<'_> {
     pub fn exactly(&mut self, n: usize, entry: Entry) -> Result<Span, BatchFault>
         ensures reads { λ r. ⌜ Reads (part (file (now (self .entry)))) (items.exactly (entryOf entry) n) (now (self .entry)) r (now (self .exit)) ⌝ }
         ensures inside { λ r. ⌜ made r (Inside (file (now (self .entry)))) ⌝ }
+        ensures ends { λ r. ⌜ made r (λ (s : Spa). s .start + s .len ≡ now (self .exit) .at) ⌝ }
         ensures stays { λ r. ⌜ refused r (λ _. now (self .exit) .at ≡ now (self .entry) .at) ⌝ }
     {
         let start = self.at;
@@ -99,6 +101,7 @@ impl Reader<'_> {
     pub fn text(&mut self, entry: Entry) -> Result<Span, BatchFault>
         ensures reads { λ r. ⌜ Reads (part (file (now (self .entry)))) (items.text (entryOf entry)) (now (self .entry)) r (now (self .exit)) ⌝ }
         ensures inside { λ r. ⌜ made r (Inside (file (now (self .entry)))) ⌝ }
+        ensures ends { λ r. ⌜ made r (λ (s : Spa). s .start + s .len ≡ now (self .exit) .at) ⌝ }
         ensures stays { λ r. ⌜ refused r (λ _. now (self .exit) .at ≡ now (self .entry) .at) ⌝ }
     {
         let start = self.at;

@@ -22,7 +22,7 @@ returns-in-Ok c =
     let l = c .in-Ok .ensures tt in
     record {
       decodes = is-read l _ _ (sym (c .as-mut-slice .ensures .len)) (sym (c .as-mut-slice-2 .ensures .len));
-      same = refl;
+      same = (refl, refl, refl);
       emptied = tt;
       lawful = keeps-rules (c .args .bytes .now) (all-bytes (c .args .bytes .now) (λ i. omega (arith, c .typed .bytes i))) (is-accepted l);
     }

@@ -10,6 +10,7 @@ returns-then-self-start c =
     record {
       reads = record { same = refl; does = ap Err (c .new .ensures) ∙ exactly-cut (c .args .self .now .bytes .now) (c .args .self .now .at) (c .args .n) (entryOf (c .args .entry)) (omega arith) };
       inside = tt;
+      ends = tt;
       stays = refl;
     }
 
@@ -18,5 +19,6 @@ returns c =
     record {
       reads = record { same = refl; does = exactly-there (c .args .self .now .bytes .now) (c .args .self .now .at) (c .args .n) (entryOf (c .args .entry)) (omega arith) };
       inside = omega arith;
+      ends = refl;
       stays = tt;
     }

@@ -20,6 +20,7 @@ returns-then-self-first c =
             ∙ ap (carry (textFrom (entryOf (c .args .entry)) (c .args .self .now .at))) (c .in-Continue-len .ensures tt .reads .does);
       };
       inside = tt;
+      ends = tt;
       stays = refl;
     }
 
@@ -34,6 +35,7 @@ returns-then-len-gt255 c =
             ∙ ap (carry (textFrom (entryOf (c .args .entry)) (c .args .self .now .at))) (c .in-Continue-len .ensures tt .reads .does);
       };
       inside = tt;
+      ends = tt;
       stays = refl;
     }
 
@@ -50,5 +52,6 @@ returns c =
             ∙ ap (carry (textFrom (entryOf (c .args .entry)) (c .args .self .now .at))) (c .in-Continue-len .ensures tt .reads .does);
       };
       inside = omega (arith, ap length (c .in-Continue-len .ensures tt .reads .same));
+      ends = refl;
       stays = tt;
     }
