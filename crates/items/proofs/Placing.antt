@@ -107,6 +107,12 @@ module _ {before now : Reader} {w count n start last turn : ℕ} (p : Passing be
       let c : count ≡ turn = omega arith in
       omega (arith, p .here, ap (λ k. w * k) c, ap length (p .same))
 
+  -- they end where the reader stands
+  pub ending : turn ≤ count → count ≤ turn → start + w * count ≡ now .at
+  ending h k =
+      let c : count ≡ turn = omega arith in
+      omega (arith, p .here, ap (λ k. w * k) c)
+
   pub breaks : turn < count → (x : Fault) → Err x ≡ offsetAfter (column n) w last (rest now) → Err x ≡ offsets w n count 0 (rest before)
   breaks h x e =
       ap (upon (placed w (file before) start turn))

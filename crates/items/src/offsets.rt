@@ -5,6 +5,7 @@ ghost use lib.Dec.{leb};
 ghost use lib.ListN.{length};
 ghost use Rattle.meaning.specs.Columns as columns;
 ghost use Rattle.fault.specs.Faults.{entryOf};
+ghost use Rattle.items.specs.declared.reader.Offsets.{Offsets as Off};
 ghost use Rattle.items.specs.Cuts.{offsetAfter, offsetsOf, Standing};
 ghost use Rattle.items.specs.Reading.{Reads, file};
 ghost use Rattle.items.specs.Widths.{wide};
@@ -36,6 +37,7 @@ impl Reader<'_> {
     pub fn offsets(&mut self, width: Width, count: usize, n: usize) -> Result<Offsets, BatchFault>
         ensures reads { λ r. ⌜ Reads (offsetsOf (file (now (self .entry)))) (columns.offsets (wide width) n count 0) (now (self .entry)) r (now (self .exit)) ⌝ }
         ensures stand { λ r. ⌜ made r (Standing (file (now (self .entry))) width count) ⌝ }
+        ensures ends { λ r. ⌜ made r (λ (o : Off). o .start + wide (o .width) * o .count ≡ now (self .exit) .at) ⌝ }
         ensures stays { λ r. ⌜ refused r (λ _. now (self .exit) .at ≡ now (self .entry) .at) ⌝ }
     {
         let start = self.at;

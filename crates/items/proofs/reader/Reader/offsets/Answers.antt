@@ -6,7 +6,7 @@ use Rattle.items.specs.Cuts.{Standing}
 use Rattle.items.specs.Reading.{file}
 use Rattle.items.specs.Widths.{wide}
 use Rattle.items.proofs.Taken.{refuses-read}
-use Rattle.items.proofs.Placing.{starts, ends, breaks, goes, standing}
+use Rattle.items.proofs.Placing.{starts, ends, breaks, goes, standing, ending}
 use Rattle.items.proofs.reader.Reader.offsets.Needs as need
 
 pub loop-holds : need.loop-holds
@@ -18,6 +18,7 @@ returns-in-Err c =
     record {
       reads = record { same = b .same ∙ c .loop .inv .same; does = breaks (c .loop .inv) (omega arith) _ (b .does) };
       stand = tt;
+      ends = tt;
       stays = refl;
     }
 
@@ -31,5 +32,6 @@ returns c =
     record {
       reads = record { same = c .loop .inv .same; does = ends (c .loop .inv) (omega arith) (omega arith) };
       stand = record { sized = refl; many = refl; fits = standing (c .loop .inv) (omega arith) (omega arith) (c .loop .self .ok) };
+      ends = ending (c .loop .inv) (omega arith) (omega arith);
       stays = tt;
     }
