@@ -1,3 +1,5 @@
+#![tactic(auto)]
+
 mod batch;
 mod entries;
 mod load;

@@ -1,4 +1,6 @@
 // Prints what the batch file on standard input holds, or why it is refused.
+#![tactic(auto)]
+
 use std::io;
 
 // One byte more than a batch file may have: with it the file is refused, so no more need be read.

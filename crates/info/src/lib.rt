@@ -1,3 +1,5 @@
+#![tactic(auto)]
+
 mod describe;
 mod lines;
 mod listing;

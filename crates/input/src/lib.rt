@@ -1,4 +1,6 @@
 // Reading a whole input, up to a limit.
+#![tactic(auto)]
+
 ghost use Rattle.std.specs.Prelude.{◌≤◌, length, IfOk, vec_len};
 
 use std::alloc::Global;

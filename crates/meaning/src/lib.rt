@@ -1,3 +1,5 @@
+#![tactic(auto)]
+
 ghost use Rattle.meaning.specs.Accepts.{AcceptsLaw};
 ghost use Rattle.meaning.specs.Access.{Own};
 ghost use Rattle.meaning.specs.Converter.{ConvertedLaw};

@@ -2,6 +2,8 @@
 //
 // A line of the table is a case: its label, and then the parts of its file, parted by blanks. A part is
 // a hex string, or `HEX*COUNT`: the bytes of HEX, COUNT times. A label alone is a file of no bytes.
+#![tactic(auto)]
+
 mod case;
 mod fault;
 mod hex;

@@ -1,3 +1,5 @@
+#![tactic(auto)]
+
 mod code;
 mod fields;
 mod types;

@@ -1,4 +1,6 @@
 // What no file alone can show: work tables of several sizes, and tables that are used again.
+#![tactic(auto)]
+
 use anyhow::anyhow;
 use batch::{Batch, Tables};
 use std::alloc::Global;
