@@ -67,7 +67,7 @@ fn read_counted(
 
 // Columns side by side, `count` of them, numbered from `n` on; `level` levels are left for them. Their holder `owner` cuts them by
 // the offsets `cut` and asks `need` of their lengths. Gives the number that comes next.
-#[cycle(read_body_read_column_read_columns_read_list_read_map)]
+#[cycle(columns)]
 fn read_columns(
     reader: &mut Reader,
     table: &mut [ColumnEntry],
@@ -92,7 +92,7 @@ fn read_columns(
 }
 
 // Column `n`, and the columns that it holds at `level` levels below it. Gives the number that comes next.
-#[cycle(read_body_read_column_read_columns_read_list_read_map)]
+#[cycle(columns)]
 fn read_column(
     reader: &mut Reader,
     table: &mut [ColumnEntry],
@@ -126,7 +126,7 @@ fn read_column(
 }
 
 // What follows the head of column `n`, of this code and length, with the columns that it holds.
-#[cycle(read_body_read_column_read_columns_read_list_read_map)]
+#[cycle(columns)]
 fn read_body(
     reader: &mut Reader,
     table: &mut [ColumnEntry],
@@ -192,7 +192,7 @@ fn read_body(
 }
 
 // The offsets and the child of a list column.
-#[cycle(read_body_read_column_read_columns_read_list_read_map)]
+#[cycle(columns)]
 fn read_list(
     reader: &mut Reader,
     table: &mut [ColumnEntry],
@@ -215,7 +215,7 @@ fn read_list(
 }
 
 // The offsets, the key column and the value column of a map column. The value column has the key column's length.
-#[cycle(read_body_read_column_read_columns_read_list_read_map)]
+#[cycle(columns)]
 fn read_map(
     reader: &mut Reader,
     table: &mut [ColumnEntry],

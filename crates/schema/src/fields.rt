@@ -43,7 +43,7 @@ fn read_counted(reader: &mut Reader, table: &mut [FieldEntry]) -> Result<usize, 
 
 // Fields side by side, `count` of them, numbered from `n` on; `level` levels are left for them, and the first may be a map's key.
 // Gives the number that comes next.
-#[cycle(read_field_read_fields_read_type)]
+#[cycle(fields)]
 fn read_fields(
     reader: &mut Reader,
     table: &mut [FieldEntry],
@@ -68,7 +68,7 @@ fn read_fields(
 }
 
 // Field `n`, and the fields that its type holds at `level` levels below it. Gives the number that comes next.
-#[cycle(read_field_read_fields_read_type)]
+#[cycle(fields)]
 fn read_field(
     reader: &mut Reader,
     table: &mut [FieldEntry],
@@ -95,7 +95,7 @@ fn read_field(
 }
 
 // The type of field `n`, a map's key or not, with the fields that it holds. Gives the number that comes after them.
-#[cycle(read_field_read_fields_read_type)]
+#[cycle(fields)]
 fn read_type(
     reader: &mut Reader,
     table: &mut [FieldEntry],

@@ -6,10 +6,10 @@ use Rattle.info.proofs.describe.report.Goals as goal
 
 pub returns-in-Ok : goal.returns-in-Ok
 returns-in-Ok c =
-    let meant = reads-file c.in-ok-tables.tables c.in-ok-tables.ensures c.args.bytes.now _ c.in-Ok.ensures.decodes in
-    same_text c.report-batch.result _ _ (ap report_text meant) c.report-batch.ensures
+    let meant = reads-file c.in_ok-tables.tables c.in_ok-tables.ensures c.args.bytes.now _ c.in-Ok.ensures.decodes in
+    same_text c.report_batch.result _ _ (ap report_text meant) c.report_batch.ensures
 
 pub returns-in-Err : goal.returns-in-Err
 returns-in-Err c =
-    let meant = reads-file c.in-ok-tables.tables c.in-ok-tables.ensures c.args.bytes.now _ c.in-Err.ensures.decodes in
-    same_text c.report-refused.result _ _ (ap report_text meant) c.report-refused.ensures
+    let meant = reads-file c.in_ok-tables.tables c.in_ok-tables.ensures c.args.bytes.now _ c.in-Err.ensures.decodes in
+    same_text c.report_refused.result _ _ (ap report_text meant) c.report_refused.ensures

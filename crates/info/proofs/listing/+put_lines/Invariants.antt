@@ -3,8 +3,8 @@ use Rattle.info.proofs.Adding.{Putting}
 use Rattle.info.proofs.listing.+put_lines.Given as goal
 
 -- the entries below one are fewer than those beside it
-abbrev pub decreases-put-lines : goal.decreases-put-lines
-decreases-put-lines g l = l.end - l.first
+abbrev pub decreases-put_lines : goal.decreases-put_lines
+decreases-put_lines g l = l.end - l.first
 
 abbrev pub invariant-loop-n : goal.invariant-loop-n
 invariant-loop-n g l =

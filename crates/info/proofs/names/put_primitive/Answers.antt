@@ -9,7 +9,7 @@ returns-in-Fixed g c plain ok =
     primitive_put _ _ c.in-Fixed.is (has_written_of_eq _ _ _ _ _ (bracketed (codes "fixed[") c.in-Fixed.length (omega arith)) (c.write.ensures.writes plain ok))
 
 pub returns-in-Timestamptz : goal.returns-in-Timestamptz
-returns-in-Timestamptz g c plain ok = primitive_put _ _ c.in-Timestamptz.is (c.write-str-in-Timestamptz.ensures.writes plain ok)
+returns-in-Timestamptz g c plain ok = primitive_put _ _ c.in-Timestamptz.is (c.write_str-in-Timestamptz.ensures.writes plain ok)
 
 pub returns-in-TimestamptzNs : goal.returns-in-TimestamptzNs
-returns-in-TimestamptzNs g c plain ok = primitive_put _ _ c.in-TimestamptzNs.is (c.write-str-in-TimestamptzNs.ensures.writes plain ok)
+returns-in-TimestamptzNs g c plain ok = primitive_put _ _ c.in-TimestamptzNs.is (c.write_str-in-TimestamptzNs.ensures.writes plain ok)

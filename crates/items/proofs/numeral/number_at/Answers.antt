@@ -15,4 +15,4 @@ returns-then-b-lt128 c =
 pub loop-k-preserved : goal.loop-k-preserved
 loop-k-preserved c =
     goes_on c.args.bytes.now c.loop-k.k c.loop-k.value _ (omega arith) (omega arith) refl (λ e. omega arith) _ c.from-in-loop-k.ensures (omega arith)
-    (omega (arith, c.type-inv.bytes c.loop-k.k)) (omega arith) c.loop-k.invariant.2
+    (omega (arith, c.type_inv.bytes c.loop-k.k)) (omega arith) c.loop-k.invariant.2

@@ -18,22 +18,22 @@ part-name-requires c =
     title_inside self.standing c.args.n (omega arith) (omega (arith, self.counted)) e
     (get_or_read_under (vec_items self.tables.columns) _ _ e blank c.index-entry.ensures (omega (arith, self.room)) self.tables.columns.ok.0)
 
-pub maybe-part-id-text-requires : goal.maybe-part-id-text-requires
-maybe-part-id-text-requires c =
+pub maybe_part-id_text-requires : goal.maybe_part-id_text-requires
+maybe_part-id_text-requires c =
     let self = c.args.self.now in
     let e = c.index-entry.result.now in
     id-inside self.standing c.args.n (omega arith) (omega (arith, self.counted)) e
     (get_or_read_under (vec_items self.tables.columns) _ _ e blank c.index-entry.ensures (omega (arith, self.room)) self.tables.columns.ok.0)
 
-pub maybe-part-validity-requires : goal.maybe-part-validity-requires
-maybe-part-validity-requires c =
+pub maybe_part-validity-requires : goal.maybe_part-validity-requires
+maybe_part-validity-requires c =
     let self = c.args.self.now in
     let e = c.index-entry.result.now in
     validity-inside self.standing c.args.n (omega arith) (omega (arith, self.counted)) e
     (get_or_read_under (vec_items self.tables.columns) _ _ e blank c.index-entry.ensures (omega (arith, self.room)) self.tables.columns.ok.0)
 
-pub offset-buffer-offsets-requires : goal.offset-buffer-offsets-requires
-offset-buffer-offsets-requires c =
+pub offset_buffer-offsets-requires : goal.offset_buffer-offsets-requires
+offset_buffer-offsets-requires c =
     let self = c.args.self.now in
     let e = c.index-entry.result.now in
     offsets-inside self.standing c.args.n (omega arith) (omega (arith, self.counted)) e
@@ -52,4 +52,4 @@ returns c =
     let e = c.index-entry.result.now in
     column_is self.standing c.args.n (omega arith) (omega (arith, self.counted)) e
     (get_or_read_under (vec_items self.tables.columns) _ _ e blank c.index-entry.ensures (omega (arith, self.room)) self.tables.columns.ok.0) _ _ _ _ _
-    c.part-name.ensures c.maybe-part-id-text.ensures c.maybe-part-validity.ensures c.offset-buffer-offsets.ensures c.part-body.ensures
+    c.part-name.ensures c.maybe_part-id_text.ensures c.maybe_part-validity.ensures c.offset_buffer-offsets.ensures c.part-body.ensures

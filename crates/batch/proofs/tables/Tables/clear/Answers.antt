@@ -6,6 +6,6 @@ use Rattle.batch.proofs.tables.Tables.clear.Goals as goal
 pub returns : goal.returns
 returns c =
     record {
-      fields = overwritten c.args.self.now.fields c.fill.new.items _ fields.blank c.as-mut-slice.ensures.value c.as-mut-slice.ensures.len c.fill.ensures;
-      columns = overwritten c.args.self.now.columns c.fill-2.new.items _ columns.blank c.as-mut-slice-2.ensures.value c.as-mut-slice-2.ensures.len c.fill-2.ensures;
+      fields = overwritten c.args.self.now.fields c.fill.new.items _ fields.blank c.as_mut_slice.ensures.value c.as_mut_slice.ensures.len c.fill.ensures;
+      columns = overwritten c.args.self.now.columns c.fill-2.new.items _ columns.blank c.as_mut_slice-2.ensures.value c.as_mut_slice-2.ensures.len c.fill-2.ensures;
     }

@@ -8,5 +8,5 @@ use Rattle.info.proofs.lines.ColumnLineDisplay.fmt.Goals as goal
 pub returns-clause-writes : goal.returns-clause-writes
 returns-clause-writes g c plain ok =
     let l = c.args.self.now in
-    let line = column-line l.level l.number (column_of l.column) c.count-nulls-nulls.result (omega arith) (omega arith) (omega arith) (omega arith) c.count-nulls-nulls.ensures in
+    let line = column-line l.level l.number (column_of l.column) c.count_nulls-nulls.result (omega arith) (omega arith) (omega arith) (omega arith) c.count_nulls-nulls.ensures in
     has_written_of_eq _ _ _ _ _ line (c.write.ensures.writes plain ok)

@@ -5,7 +5,7 @@ use Rattle.info.proofs.Naming.{bracketed, code_put}
 use Rattle.info.proofs.names.CodeNameDisplay.fmt.Goals as goal
 
 pub returns-in-TimestampMicrosecond-clause-writes : goal.returns-in-TimestampMicrosecond-clause-writes
-returns-in-TimestampMicrosecond-clause-writes g c plain ok = code_put _ _ c.in-TimestampMicrosecond.is (c.write-str-in-TimestampMicrosecond.ensures.writes plain ok)
+returns-in-TimestampMicrosecond-clause-writes g c plain ok = code_put _ _ c.in-TimestampMicrosecond.is (c.write_str-in-TimestampMicrosecond.ensures.writes plain ok)
 
 pub returns-in-FixedSizeBinary-clause-writes : goal.returns-in-FixedSizeBinary-clause-writes
 returns-in-FixedSizeBinary-clause-writes g c plain ok =

@@ -8,13 +8,13 @@ pub returns : goal.returns
 returns c =
     let before = c.args.self.now in
     let after = c.exactly.new.self in
-    let read = c.in-ok-exactly.ensures.reads in
+    let read = c.in_ok-exactly.ensures.reads in
     record {
       reads = record {
         same = read.same;
         does =
-            id-there before.bytes.now after.bytes.now before.at (entry_of c.args.entry) (part before.bytes.now c.in-ok-exactly.field-0) (rest after) _ read.same read.does
-            (to_z-of_z {w = w32} {z = c.from-le-bytes.result} (record { sfits = c.from-le-bytes.type-inv }) ∙ c.from-le-bytes.ensures);
+            id-there before.bytes.now after.bytes.now before.at (entry_of c.args.entry) (part before.bytes.now c.in_ok-exactly.field-0) (rest after) _ read.same read.does
+            (to_z-of_z {w = w32} {z = c.from_le_bytes.result} (record { sfits = c.from_le_bytes.type_inv }) ∙ c.from_le_bytes.ensures);
       };
       stays = tt;
     }
