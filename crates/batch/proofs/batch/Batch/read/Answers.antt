@@ -8,10 +8,14 @@ invariant_of-result c =
     let l = c.in-Ok.ensures in
     let fs = written c.args.tables.fields c.load.new.fields c.as_mut_slice.result.now c.load.auto.fields c.as_mut_slice.ensures.len in
     let cs = written c.args.tables.columns c.load.new.columns c.as_mut_slice-2.result.now c.load.auto.columns c.as_mut_slice-2.ensures.len in
-    let b = all_bytes c.args.bytes.now (λ i. omega (arith, c.type_inv.bytes i)) in (
-      is_accepted l,
-      (∣ (keeps_rules c.args.bytes.now b (is_accepted l)).0 ∣₁, (is_counted l, (is_roomy b l _ _ c.as_mut_slice.ensures.len c.as_mut_slice-2.ensures.len, (∣ is_standing l _ _ fs cs ∣₁, tt)))),
-    )
+    let b = all_bytes c.args.bytes.now (λ i. omega (arith, c.type_inv.bytes i)) in
+    record {
+      accepted = is_accepted l;
+      keeps = ∣ (keeps_rules c.args.bytes.now b (is_accepted l)).0 ∣₁;
+      counted = is_counted l;
+      room = is_roomy b l _ _ c.as_mut_slice.ensures.len c.as_mut_slice-2.ensures.len;
+      standing = ∣ is_standing l _ _ fs cs ∣₁;
+    }
 
 pub returns-in-Ok : goal.returns-in-Ok
 returns-in-Ok c =
