@@ -29,6 +29,8 @@ def main(crates):
                 continue
             t = open(f, encoding="utf-8").read()
             goals = set(re.findall(r"\bgoal\.([A-Za-z0-9_'-]+)", t)) | set(re.findall(r"^pub ([A-Za-z0-9_'-]+) :", t, re.M))
+            for items in re.findall(r"^use [^\n]*\.(?:Goals|Given)\.\{([^}]*)\}", t, re.M):
+                goals |= {i.strip() for i in items.split(",")}
             new = re.sub(r"(?<=\.)[a-z][A-Za-z0-9_'-]*", lambda m: turn(m[0]), t)
             for g in sorted(goals, key=len, reverse=True):
                 if turn(g) != g:

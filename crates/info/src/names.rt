@@ -32,7 +32,7 @@ impl fmt::Display for TypeName {
 
 // Writes the name of a type that holds no fields.
 fn put_primitive<W: fmt::Write>(f: &mut fmt::Formatter<W>, primitive: Primitive) -> fmt::Result
-    ensures { WritesOnOk write_str_gives f.old result (primitive_text (prim_of primitive)) f.new }
+    ensures { WritesOnOk W.write_str_gives f.old result (primitive_text (prim_of primitive)) f.new }
 {
     match primitive {
         Primitive::Boolean => f.write_str("boolean"),

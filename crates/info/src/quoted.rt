@@ -24,7 +24,7 @@ impl fmt::Display for Quoted<'_> {
 
 // Writes a byte between the quotes.
 fn put_byte<W: fmt::Write>(f: &mut fmt::Formatter<W>, byte: u8) -> fmt::Result
-    ensures { WritesOnOk write_str_gives f.old result (quoted_byte byte) f.new }
+    ensures { WritesOnOk W.write_str_gives f.old result (quoted_byte byte) f.new }
 {
     if is_printable(byte) {
         f.write_char(byte as char)
