@@ -1,24 +1,23 @@
 -- The entries of a batch in hand, as its views show them.
 use mathlib.Core.HLevel.{Unit-prop}
-use Rattle.std.proofs.Common.{◌≡◌, ℕ, ◌+◌, ◌-◌, ◌<◌, ◌≤◌, ◌⊎◌, List, [], ◌∷◌, ℤ, Some, None, Option, sym, refl, ap, ◌∙◌, subst, inl, inr, arith}
+use Rattle.std.proofs.Common.{◌≡◌, ℕ, ◌<◌, ◌≤◌, ◌⊎◌, List, ℤ, Some, None, Option, sym, ap, ◌∙◌, subst, inl, inr, arith}
 use mathlib.Core.Logic.{∥∥₁_elim}
 use native.Mathlib.Bridge.{le_prop}
 use Rattle.std.specs.Option.{option_map}
 use Rattle.meaning.specs.Forest.{Forest, find, size}
-use Rattle.meaning.specs.Model as model
 use Rattle.meaning.specs.Model.{Model}
 use Rattle.meaning.specs.Columns.{values}
 use Rattle.items.specs.declared.reader.Span.{Span}
 use Rattle.items.specs.Cuts.{Fits, offsets_of}
 use Rattle.items.specs.Reading.{Inside, part}
-use Rattle.items.specs.Tables.{Layout, Stands, entry}
+use Rattle.items.specs.Tables.{Layout, entry}
 use Rattle.items.proofs.Finding.{Found, found, not_found}
 use Rattle.schema.specs.declared.types.FieldEntry.{FieldEntry}
-use Rattle.schema.specs.Fields.{field_of, field_table}
+use Rattle.schema.specs.Fields.{field_table}
 use Rattle.schema.specs.Forms.{shape_of}
 use Rattle.columns.specs.declared.entry.ColumnEntry.{ColumnEntry}
 use Rattle.columns.specs.Codes.{code_meant}
-use Rattle.columns.specs.Entries.{MaybeInside, column_of, column_table}
+use Rattle.columns.specs.Entries.{MaybeInside, column_table}
 use Rattle.batch.specs.Loaded.{Standing}
 use Rattle.batch.specs.Views.{numbered}
 use Rattle.batch.proofs.Sets.{field_set, column_set, numbered_set}

@@ -1,5 +1,5 @@
 -- A file's items one after the other, against the definition `decode`.
-use Rattle.std.proofs.Common.{◌≡◌, ℕ, ◌+◌, ◌-◌, ◌<◌, ◌≤◌, true, false, cond, ◌||◌, eqb, ltb, List, [], length, drop, Ok, Err, Result, sym, refl, ap, ◌∙◌, subst, arith}
+use Rattle.std.proofs.Common.{◌≡◌, ℕ, ◌<◌, ◌≤◌, true, false, ◌||◌, eqb, ltb, List, [], length, drop, Ok, Err, Result, sym, ap, ◌∙◌, subst, arith}
 use Rattle.std.proofs.lemmas.List.{length-drop}
 use Rattle.std.proofs.lemmas.Bool.Decides.{nat_tests}
 use Rattle.meaning.specs.Forest.{Forest}
@@ -8,7 +8,7 @@ use Rattle.meaning.specs.Model.{Model}
 use Rattle.meaning.specs.Items.{head, BatchFault as Fault, Rest, Read, refused, carry, give, byte, number, limited}
 use Rattle.meaning.specs.Schema.{fields}
 use Rattle.meaning.specs.Columns.{columns, exact}
-use Rattle.meaning.specs.File.{whole, ended, decode}
+use Rattle.meaning.specs.File.{whole, ended}
 use Rattle.items.proofs.Taken.{if_true, if_false, listed-byte, then_then}
 use Rattle.schema.specs.Fields.{schema_in}
 use Rattle.columns.specs.Entries.{columns_in}

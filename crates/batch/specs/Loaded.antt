@@ -1,5 +1,5 @@
 -- What reading a file into work tables gives.
-use Rattle.std.specs.Prelude.{◌≡◌, ℕ, Bool, true, false, cond, ◌||◌, List, Ok, Err, Result, nat_lt}
+use Rattle.std.specs.Prelude.{◌≡◌, ℕ, Bool, cond, ◌||◌, List, Ok, Err, Result, nat_lt}
 use Rattle.meaning.specs.Forest.{none, size}
 use Rattle.meaning.specs.Model.{Model}
 use Rattle.meaning.specs.Items as items

@@ -1,8 +1,8 @@
 -- A column's code with its width or size, against the definition `code_of`.
-use Rattle.std.proofs.Common.{◌≡◌, ℕ, ◌-◌, ◌<◌, ◌≤◌, Bool, true, false, cond, ◌&&◌, eqb, leb, ◌≢◌, ◌⊎◌, List, Ok, Err, Result, sym, refl, ap, ◌∙◌, inl, inr, arith}
+use Rattle.std.proofs.Common.{◌≡◌, ℕ, true, false, cond, eqb, ◌≢◌, ◌⊎◌, Ok, sym, ap, ◌∙◌, inl, inr, arith}
 use Rattle.std.proofs.lemmas.Bool.Decides.{nat_tests}
 use Rattle.meaning.specs.Model as model
-use Rattle.meaning.specs.Items.{Entry, column, BatchFault as Fault, Rest, Read, refused, carry, exactly, first, byte, limited}
+use Rattle.meaning.specs.Items.{column, Rest, Read, refused, carry, byte, limited}
 use Rattle.meaning.specs.Columns.{code_of, detailed}
 use Rattle.columns.specs.Codes.{listed}
 use Rattle.items.proofs.Taken.{if_true, if_false, listed-byte}

@@ -1,5 +1,5 @@
 -- A body that holds no columns.
-use Rattle.std.proofs.Common.{◌≡◌, ℕ, ◌+◌, ◌⊎◌, List, IfOk, Ok, Err, Result, sym, refl, ap, ◌∙◌, subst, inl, inr}
+use Rattle.std.proofs.Common.{◌≡◌, ℕ, ◌+◌, ◌⊎◌, List, IfOk, Ok, Err, Result, sym, ap, ◌∙◌, subst, inl, inr}
 use Rattle.meaning.specs.Forest.{Forest, none}
 use Rattle.meaning.specs.Model as model
 use Rattle.meaning.specs.Items.{Read}

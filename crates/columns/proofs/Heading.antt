@@ -1,10 +1,9 @@
 -- A column's items one after the other, against the definition `columned`.
-use Rattle.std.proofs.Common.{◌≡◌, ℕ, ◌+◌, ◌-◌, ◌/◌, ◌≤◌, Bool, List, length, set, Ok, Err, Option, Result, sym, refl, ap, ◌∙◌, subst}
+use Rattle.std.proofs.Common.{◌≡◌, ℕ, ◌+◌, ◌-◌, ◌/◌, ◌≤◌, List, length, set, Ok, Option, Result, sym, refl, ap, ◌∙◌, subst}
 use Rattle.std.specs.Option.{option_map}
 use Rattle.meaning.specs.Forest.{Forest, none, tree}
 use Rattle.meaning.specs.Model as model
-use Rattle.meaning.specs.Items.{Entry, column, BatchFault as Fault, Rest, Read, carry, give, exactly, flag, text}
-use Rattle.meaning.specs.Columns as columns
+use Rattle.meaning.specs.Items.{column, BatchFault as Fault, Rest, Read, carry, give, exactly, flag, text}
 use Rattle.meaning.specs.Columns.{Columns, Need, Offsets, Body, values, maybe, code_of, length_of, body_of, columned}
 use Rattle.items.specs.declared.reader.Offsets.{Offsets as Offsets'}
 use Rattle.items.specs.declared.reader.Reader.{Reader}

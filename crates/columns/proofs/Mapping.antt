@@ -1,6 +1,6 @@
 -- A map's key column and value column, against the definition `body_of`.
-use Rattle.std.proofs.Common.{◌≡◌, ℕ, ◌+◌, ◌-◌, ◌<◌, ◌≤◌, List, [], get_or, Ok, Err, Result, sym, refl, ap, ◌∙◌, subst, arith}
-use Rattle.meaning.specs.Forest.{Forest, none, tree, size, beside}
+use Rattle.std.proofs.Common.{◌≡◌, ℕ, ◌+◌, ◌-◌, ◌<◌, List, [], get_or, Ok, Result, sym, refl, ap, ◌∙◌, subst, arith}
+use Rattle.meaning.specs.Forest.{Forest, size, beside}
 use Rattle.meaning.specs.Model as model
 use Rattle.meaning.specs.Items.{BatchFault as Fault, Rest, Read, carry, give}
 use Rattle.meaning.specs.Columns as columns
@@ -11,8 +11,8 @@ use Rattle.items.specs.Cuts.{offsets_of}
 use Rattle.items.specs.Reading.{file, rest}
 use Rattle.items.specs.Tables.{Filled}
 use Rattle.columns.specs.declared.entry.ColumnEntry.{ColumnEntry}
-use Rattle.columns.specs.Entries.{blank, column_of, column_table}
-use Rattle.columns.proofs.Siblings.{Holder, Single, single}
+use Rattle.columns.specs.Entries.{blank, column_table}
+use Rattle.columns.proofs.Siblings.{Single, single}
 
 -- The offsets and the key column are read.
 pub record Keyed (level len n : ℕ) (before r1 r2 : Reader) (cut : Offsets') (old mid : List ColumnEntry) (value : ℕ) (keys : Forest model.Column) : Type 0 where

@@ -1,5 +1,5 @@
 -- The lines of the faults, piece by piece as `write!` writes them.
-use Rattle.std.proofs.Common.{◌≡◌, ℕ, ◌^◌, ◌<◌, List, [], ◌∷◌, ◌++◌, codes, decimal as written, sym, refl, ap, ◌∙◌, append_assoc, arith}
+use Rattle.std.proofs.Common.{◌≡◌, ℕ, ◌^◌, ◌<◌, List, ◌++◌, codes, decimal as written, sym, refl, ap, ◌∙◌, append_assoc}
 use Rattle.meaning.specs.Items as items
 use Rattle.meaning.specs.Access as access
 use Rattle.meaning.specs.Text.{decimal, entry_text, batch_fault_line, step_fault_line}

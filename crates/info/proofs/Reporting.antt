@@ -1,5 +1,5 @@
 -- The text of a whole batch.
-use Rattle.std.proofs.Common.{◌≡◌, ℕ, ◌+◌, ◌^◌, ◌<◌, List, ◌++◌, length, IfOk, Ok, vec_len, string_bytes, codes, decimal as written, Result, String, sym, refl, ap, ◌∙◌, subst, append_assoc}
+use Rattle.std.proofs.Common.{◌≡◌, ℕ, ◌+◌, ◌^◌, ◌<◌, List, ◌++◌, length, IfOk, Ok, vec_len, string_bytes, codes, decimal as written, Result, String, sym, ap, ◌∙◌, subst}
 use Rattle.std.proofs.lemmas.List.{length-replicate}
 use Rattle.std.specs.declared.alloc.AllocError.{AllocError}
 use Rattle.std.specs.declared.alloc.Global.{Global}
@@ -12,7 +12,6 @@ use Rattle.columns.specs.Entries as columns
 use Rattle.batch.specs.declared.tables.Tables.{Tables}
 use Rattle.batch.specs.Blank.{Blank}
 use Rattle.batch.specs.Loaded.{read_in}
-use Rattle.meaning.specs.Text.{decimal}
 use Rattle.fault.proofs.Decimal.{decimal-written}
 use Rattle.info.specs.Lines.{column_line, field_line, lines, report_text, rows_line}
 use Rattle.info.specs.Segments.{between}

@@ -1,11 +1,9 @@
 -- Trees side by side, found by the number of the first.
-use Rattle.std.proofs.Common.{◌≡◌, ℕ, zero, suc, ◌+◌, ◌<◌, ◌≤◌, true, false, cond, eqb, ltb, leb, ◌⊎◌, List, [], ◌∷◌, ◌++◌, Some, None, codes, Option, sym, refl, ap, ◌∙◌, subst, inl, inr, append_assoc, append-nil, arith}
+use Rattle.std.proofs.Common.{◌≡◌, ℕ, ◌+◌, ◌<◌, ◌≤◌, true, false, eqb, ltb, Some, sym, refl, ap, ◌∙◌, inl, inr, arith}
 use Rattle.std.proofs.lemmas.Bool.Decides.{nat_tests, eqb_tells, leb_tells}
 use Rattle.meaning.specs.Forest.{Forest, none, tree, size, find}
 use Rattle.items.proofs.Taken.{if_true, if_false}
-use Rattle.batch.specs.Views.{numbered}
-use Rattle.info.specs.Lines.{lines}
-use Rattle.info.specs.Segments.{siblings_from, between}
+use Rattle.info.specs.Segments.{siblings_from}
 
 module _ {H : Type 0} where
   -- the first tree, what is below it, and the trees after it

@@ -1,9 +1,9 @@
 -- Lines worked out.
-use Rattle.std.proofs.Common.{◌≡◌, true, false, List, [], ◌∷◌, ◌++◌, pos, negsuc, Some, None, Ok, Err, codes, refl}
+use Rattle.std.proofs.Common.{◌≡◌, true, false, [], ◌∷◌, ◌++◌, pos, negsuc, Some, None, Ok, Err, codes, refl}
 use Rattle.meaning.specs.Forest.{none, tree}
 use Rattle.meaning.specs.Model.{prim, double, fixed, struct, words, float64, variable, utf8, structs}
 use Rattle.meaning.specs.Items.{field}
-use Rattle.info.specs.Lines.{rows_line, quoted, nulls, field_line, column_line, field_lines, column_lines, report_text}
+use Rattle.info.specs.Lines.{rows_line, quoted, field_line, column_line, field_lines, column_lines, report_text}
 
 quotes : quoted (codes "a \"b\\" ++ (10 ∷ 255 ∷ [])) ≡ codes "\"a \\x22b\\x5c\\x0a\\xff\""
 quotes = refl

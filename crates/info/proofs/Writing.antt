@@ -1,10 +1,10 @@
 -- The lines of fields and columns, piece by piece as they are written.
-use Rattle.std.proofs.Common.{◌≡◌, ℕ, ◌^◌, ◌<◌, List, [], ◌∷◌, ◌++◌, ℤ, codes, decimal as written, sym, refl, ap, ◌∙◌, append_assoc}
+use Rattle.std.proofs.Common.{◌≡◌, ℕ, ◌^◌, ◌<◌, List, ◌++◌, ℤ, codes, decimal as written, sym, ap, ◌∙◌, append_assoc}
 use lib.Signed.{mag}
 use Rattle.std.specs.Fmt.{signed_decimal}
 use Rattle.fault.proofs.Decimal.{decimal-written, integer-written}
 use Rattle.meaning.specs.Model.{Field, Column}
-use Rattle.meaning.specs.Text.{decimal, integer}
+use Rattle.meaning.specs.Text.{decimal}
 use Rattle.info.specs.Lines.{quoted, type_text, code_text, nulls, id_text, required_text, field_line, column_line}
 
 -- pieces as they are written, and as a line joins them

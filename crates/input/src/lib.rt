@@ -59,8 +59,8 @@ mod tests {
     fn stops_at_the_limit(rt: HostRuntime) -> Result<(), Fail> {
         let mut source: &[u8] = b"starlight";
         let bytes = read_at_most(rt.alloc(), &mut source, 4)?;
-        assert!(rt; bytes.as_slice() == b"star");
-        assert!(rt; source == b"light");
+        assert!(rt; bytes.as_slice() == b"star".as_slice());
+        assert!(rt; source == b"light".as_slice());
         Ok(())
     }
 
@@ -68,7 +68,7 @@ mod tests {
     fn stops_at_the_end(rt: HostRuntime) -> Result<(), Fail> {
         let mut source: &[u8] = b"star";
         let bytes = read_at_most(rt.alloc(), &mut source, 5)?;
-        assert!(rt; bytes.as_slice() == b"star");
+        assert!(rt; bytes.as_slice() == b"star".as_slice());
         Ok(())
     }
 

@@ -1,5 +1,5 @@
 -- A slice that is overwritten from its front.
-use Rattle.std.proofs.Common.{◌≡◌, ℕ, suc, ◌+◌, ◌<◌, ◌≤◌, List, [], ◌∷◌, ◌++◌, length, take, set, replicate, sym, refl, ap, ◌∙◌, arith, take_all, take-suc-set}
+use Rattle.std.proofs.Common.{◌≡◌, ℕ, suc, ◌+◌, ◌<◌, ◌≤◌, List, [], ◌∷◌, ◌++◌, length, take, set, replicate, sym, ap, ◌∙◌, arith, take_all, take-suc-set}
 use Rattle.std.proofs.lemmas.List.{replicate_more}
 
 module _ {X : Type 0} (xs : List X) (i : ℕ) (x : X) (inv : take i xs ≡ replicate i x) where

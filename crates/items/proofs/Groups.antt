@@ -1,9 +1,9 @@
 -- One turn of the loop that reads a number, against one step of `groups`.
-use Rattle.std.proofs.Common.{◌≡◌, ℕ, zero, suc, ◌+◌, ◌-◌, ◌*◌, ◌%◌, ◌^◌, ◌<◌, ◌≤◌, Bool, true, false, cond, ◌&&◌, eqb, leb, ◌≢◌, List, [], ◌∷◌, length, get_or, drop, sym, refl, ap, ◌∙◌, subst, inl, inr, add-mul, arith}
+use Rattle.std.proofs.Common.{◌≡◌, ℕ, suc, ◌+◌, ◌-◌, ◌*◌, ◌%◌, ◌^◌, ◌<◌, ◌≤◌, cond, ◌&&◌, eqb, leb, ◌≢◌, List, ◌∷◌, length, get_or, drop, sym, ap, ◌∙◌, inl, inr, add-mul, arith}
 use Rattle.std.proofs.lemmas.List.{drop_more}
 use Rattle.std.proofs.lemmas.Nat.{shl_whole, mul-le, pow-add}
 use Rattle.std.proofs.lemmas.Bool.Decides.{nat_tests, eqb_tells}
-use Rattle.meaning.specs.Items.{Number, value, cut, long, groups, numeral}
+use Rattle.meaning.specs.Items.{Number, value, long, groups, numeral}
 
 -- what `groups` does at one byte, the recursion left out
 step : ℕ → ℕ → ℕ → Number → Number

@@ -1,5 +1,5 @@
 -- A field's id: the four bytes as the code puts them together.
-use Rattle.std.proofs.Common.{◌≡◌, ℕ, suc, ◌+◌, ◌-◌, ◌*◌, ◌^◌, ◌<◌, ◌≤◌, Bool, true, false, cond, ltb, leb, List, [], ◌∷◌, length, get_or, take, drop, ℤ, pos, negsuc, Ok, Err, Result, sym, refl, ap, ◌∙◌, subst, inl, inr, add_assoc, arith, w32, to_z}
+use Rattle.std.proofs.Common.{◌≡◌, ℕ, suc, ◌+◌, ◌-◌, ◌*◌, ◌≤◌, Bool, true, false, cond, ltb, List, length, get_or, take, drop, ℤ, pos, negsuc, Ok, sym, refl, ap, ◌∙◌, inl, inr, arith, w32, to_z}
 use mir.Val.{sel}
 use Rattle.std.proofs.lemmas.Bool.Decides.{leb_tells}
 use Rattle.meaning.specs.Items.{Entry, Rest, carry, give, exactly, little, signed}

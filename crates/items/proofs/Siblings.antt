@@ -1,5 +1,5 @@
 -- The loop over trees side by side, for fields and for columns.
-use Rattle.std.proofs.Common.{◌≡◌, ℕ, zero, suc, ◌+◌, ◌-◌, ◌<◌, ◌≤◌, ◌⊎◌, List, length, Ok, Err, Result, sym, refl, ap, ◌∙◌, subst, inl, inr, arith}
+use Rattle.std.proofs.Common.{◌≡◌, ℕ, suc, ◌+◌, ◌-◌, ◌<◌, ◌≤◌, ◌⊎◌, List, length, Ok, Err, Result, sym, refl, ap, ◌∙◌, subst, arith}
 use Rattle.meaning.specs.Forest.{Forest, none, size, beside}
 use Rattle.meaning.specs.Items.{Entry, BatchFault as Fault, Rest, Read, refused, carry}
 use Rattle.items.specs.declared.reader.Reader.{Reader}

@@ -1,12 +1,12 @@
 -- What the steps of a reader do to the bytes that are left.
-use Rattle.std.proofs.Common.{◌≡◌, ℕ, zero, suc, ◌+◌, ◌-◌, ◌<◌, ◌≤◌, Bool, true, false, cond, ◌&&◌, eqb, ltb, leb, List, [], ◌∷◌, length, get_or, take, drop, Ok, Err, Result, sym, refl, ap, ◌∙◌, subst, arith}
+use Rattle.std.proofs.Common.{◌≡◌, ℕ, ◌+◌, ◌-◌, ◌<◌, ◌≤◌, Bool, true, false, cond, ltb, leb, List, length, get_or, take, drop, Ok, Err, Result, sym, refl, ap, ◌∙◌, subst, arith}
 use Rattle.std.proofs.lemmas.List.{length-drop, drop-drop, drop_more, take_rest}
 use Rattle.std.proofs.lemmas.Bool.Decides.{nat_tests}
 use Rattle.fault.specs.declared.faults.BatchFault.{BatchFault}
 use Rattle.items.specs.declared.reader.Reader.{Reader}
 use Rattle.fault.specs.Faults.{batch_fault_of}
 use Rattle.items.specs.Reading.{Reads, file, rest}
-use Rattle.meaning.specs.Items.{Entry, BatchFault as Fault, Rest, Read, refused, skip, exactly, carry, first, byte, number, counted, numeral, Number, value, cut, long, groups}
+use Rattle.meaning.specs.Items.{Entry, BatchFault as Fault, Rest, Read, refused, skip, exactly, carry, first, byte, number, counted, numeral, Number, value}
 
 -- the rest of a file from a byte on
 abbrev pub from : List ℕ → ℕ → Rest

@@ -1,5 +1,5 @@
 -- Offsets, as they are read one by one and as they stand in the file.
-use Rattle.std.specs.Prelude.{◌≡◌, ℕ, zero, suc, ◌+◌, ◌-◌, ◌*◌, ◌^◌, ◌≤◌, cond, List, [], ◌∷◌, length, take, drop, Ok, Err, nat_le, nat_lt}
+use Rattle.std.specs.Prelude.{◌≡◌, ℕ, zero, suc, ◌+◌, ◌-◌, ◌*◌, ◌^◌, ◌≤◌, cond, List, [], ◌∷◌, length, take, drop, Ok, nat_le, nat_lt}
 use Rattle.meaning.specs.Items.{Entry, Read, refused, carry, exactly, little}
 use Rattle.meaning.specs.Columns.{Offsets}
 use Rattle.items.specs.Widths.{wide}

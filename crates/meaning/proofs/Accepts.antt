@@ -8,7 +8,7 @@ use Rattle.meaning.specs.Columns.{exact, meets}
 use Rattle.meaning.specs.File.{whole, ended, decode}
 use Rattle.meaning.specs.Encode.{numeral as number_bytes, field_bytes, column_bytes, encode}
 use Rattle.meaning.specs.Keeps.{Bytes, Within, Keeps}
-use Rattle.meaning.proofs.Readers.{from, Reads, Came, reads_then, reads-give, parts, given, number_to, limited_to, byte_to, Item, item, number-from, limited-from, byte-from, item_then, item_same}
+use Rattle.meaning.proofs.Readers.{from, Reads, Came, reads_then, reads-give, parts, given, number_to, limited_to, byte_to, Item, number-from, limited-from, byte-from, item_then, item_same}
 use Rattle.meaning.specs.Accepts.{AcceptsLaw}
 use Rattle.meaning.proofs.FileBytes.{encode-bytes}
 use Rattle.meaning.proofs.FieldsRead.{count-size, fields_to, fields-from}

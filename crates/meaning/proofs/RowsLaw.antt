@@ -7,7 +7,7 @@ use Rattle.meaning.specs.Lists.{upto, sum, or_zero}
 use Rattle.meaning.specs.Equal.{same_integer}
 use Rattle.meaning.specs.Codes.{float?}
 use Rattle.meaning.specs.Access.{StepFault}
-use Rattle.meaning.specs.Rows.{parts, row, rows, joined}
+use Rattle.meaning.specs.Rows.{parts, row, joined}
 use Rattle.meaning.specs.Converts.{converts, check_fields}
 use Rattle.meaning.specs.Reaches.{Reach, reached}
 use Rattle.meaning.specs.Nans.{nans, nans_in}

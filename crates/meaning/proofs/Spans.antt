@@ -1,5 +1,5 @@
 -- The spans of list and map columns ascend, and stay within the child.
-use Rattle.std.proofs.Common.{◌≡◌, ℕ, zero, suc, ◌+◌, ◌-◌, ◌*◌, ◌/◌, ◌<◌, ◌≤◌, true, false, get_or, subst, le_trans, le_refl, add-zero, mul-le-mul_right, div-mul-le_self, add-one-le, arith}
+use Rattle.std.proofs.Common.{◌≡◌, ℕ, zero, suc, ◌+◌, ◌-◌, ◌*◌, ◌/◌, ◌<◌, ◌≤◌, true, get_or, subst, le_trans, le_refl, add-zero, mul-le-mul_right, div-mul-le_self, add-one-le, arith}
 use mathlib.Core.Bool.{false≢true}
 use Rattle.meaning.specs.Model.{Column, Code, bits, words, variable, fixed_size_binary, structs, lists, large_lists, fixed_size_lists, maps}
 use Rattle.meaning.specs.Slots.{span_by}

@@ -1,5 +1,5 @@
 -- Worked cases of the converter's hooks and of both walks, by computing.
-use Rattle.std.proofs.Common.{◌≡◌, ℕ, zero, suc, ◌+◌, true, false, List, [], ◌∷◌, ◌++◌, pos, negsuc, Some, None, Ok, Err, codes, refl}
+use Rattle.std.proofs.Common.{◌≡◌, ℕ, zero, suc, true, false, List, [], ◌∷◌, ◌++◌, pos, negsuc, Some, None, Ok, Err, codes, refl}
 use Rattle.meaning.specs.Forest.{none, tree}
 use Rattle.meaning.specs.Model.{Model, Column, prim, list, int, float, words, lists, fixed_size_lists, int32, float32}
 use Rattle.meaning.specs.Access.{fault}

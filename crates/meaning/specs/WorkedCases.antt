@@ -1,5 +1,5 @@
 -- The worked cases: small inputs, each with what the definitions say of it.
-use Rattle.std.specs.Prelude.{◌≡◌, ℕ, ◌+◌, ◌-◌, ◌^◌, Bool, true, false, cond, List, [], ◌∷◌, map as each, ℤ, pos, Some, None, Ok, Err, codes, Result, ◌==◌}
+use Rattle.std.specs.Prelude.{◌≡◌, ℕ, ◌-◌, ◌^◌, Bool, true, false, cond, List, [], ◌∷◌, map as each, ℤ, pos, Some, None, Ok, Err, codes, Result, ◌==◌}
 use Rattle.meaning.specs.Model.{Model, at}
 use Rattle.meaning.specs.Lists.{upto}
 use Rattle.meaning.specs.Items.{Entry, refused, number, numeral, value}

@@ -1,17 +1,14 @@
 -- A field and its type, against the definitions `fielded` and `typed`.
-use Rattle.std.proofs.Common.{◌≡◌, ℕ, ◌+◌, ◌-◌, ◌<◌, ◌≤◌, Bool, true, false, cond, ◌&&◌, ◌||◌, eqb, leb, List, length, set, ℤ, Some, Ok, Err, Result, sym, refl, ap, ◌∙◌, subst}
+use Rattle.std.proofs.Common.{◌≡◌, ℕ, ◌+◌, ◌-◌, ◌≤◌, Bool, true, false, cond, ◌&&◌, ◌||◌, eqb, leb, List, length, set, ℤ, Some, Ok, Result, sym, refl, ap, ◌∙◌, subst}
 use Rattle.meaning.specs.Forest.{Forest, none, tree}
 use Rattle.meaning.specs.Model as model
-use Rattle.meaning.specs.Items.{Entry, field, BatchFault as Fault, Rest, Read, refused, carry, give, exactly, first, byte, flag, text, limited, little, signed}
-use Rattle.meaning.specs.Schema as schema
-use Rattle.meaning.specs.Schema.{fields, Fields, Type', Kind, kind_of, nested, type_by, typed, fielded}
+use Rattle.meaning.specs.Items.{field, BatchFault as Fault, Rest, Read, refused, carry, give, exactly, byte, flag, text, little, signed}
+use Rattle.meaning.specs.Schema.{fields, Fields, Type', Kind, kind_of, nested, type_by, typed}
 use Rattle.schema.specs.declared.code.Form.{Form}
-use Rattle.fault.specs.declared.faults.BatchFault.{BatchFault}
 use Rattle.items.specs.declared.reader.Reader.{Reader}
 use Rattle.items.specs.declared.reader.Span.{Span}
 use Rattle.schema.specs.declared.types.FieldEntry.{FieldEntry}
 use Rattle.schema.specs.declared.types.Kind.{Kind as Kind'}
-use Rattle.fault.specs.Faults.{batch_fault_of}
 use Rattle.schema.specs.Forms.{shape_of, formed, decimal?, Formed}
 use Rattle.items.specs.Reading.{Inside, file, rest, part, id_from}
 use Rattle.schema.specs.Fields.{field_of, field_table, one_field}

@@ -1,5 +1,5 @@
 -- What the code's types of the schema say in the words of the definitions.
-use Rattle.std.specs.Prelude.{◌≡◌, ℕ, Bool, true, false, ◌&&◌, ◌||◌, List, Some, None, Option, ◌==◌, nat_le}
+use Rattle.std.specs.Prelude.{◌≡◌, ℕ, Bool, true, false, ◌&&◌, Some, None, Option, ◌==◌, nat_le}
 use Rattle.meaning.specs.Model as model
 use Rattle.meaning.specs.Schema as schema
 use Rattle.schema.specs.declared.types.Primitive.{Primitive}

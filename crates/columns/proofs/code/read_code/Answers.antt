@@ -1,4 +1,4 @@
-use Rattle.std.proofs.Common.{◌⊎◌, ap, ◌∙◌, inl, inr, arith}
+use Rattle.std.proofs.Common.{ap, ◌∙◌, inl, inr, arith}
 use Rattle.std.proofs.lemmas.Result.{err_from_is_err_and}
 use Rattle.meaning.specs.Items.{carry}
 use Rattle.items.specs.Reading.{rest}

@@ -1,5 +1,5 @@
 -- Each turn adds the line of an entry and the lines below it.
-use Rattle.std.proofs.Common.{◌≡◌, ◌+◌, string_bytes, ap, ◌∙◌, arith, rules}
+use Rattle.std.proofs.Common.{string_bytes, arith, rules}
 use Rattle.std.specs.declared.alloc.AllocError.{AllocError}
 use Rattle.meaning.specs.Forest.{find}
 use Rattle.batch.specs.Views.{numbered}

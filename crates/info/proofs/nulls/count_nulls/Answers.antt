@@ -1,5 +1,5 @@
 -- Each slot is counted whose bit is not set.
-use Rattle.std.proofs.Common.{◌≡◌, ℕ, ◌+◌, ◌≤◌, Bool, cond, sym, ap, ◌∙◌, arith}
+use Rattle.std.proofs.Common.{◌≡◌, ℕ, ◌+◌, ◌≤◌, Bool, cond, sym, ap, arith}
 use Rattle.batch.specs.Views.{column_of, maybe_part_of}
 use Rattle.info.proofs.Tallies.{none-null, more_nulls}
 use Rattle.info.proofs.nulls.count_nulls.Goals as goal

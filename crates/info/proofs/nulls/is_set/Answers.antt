@@ -1,6 +1,5 @@
 -- The bit is the one that stands in its byte.
-use Rattle.std.proofs.Common.{◌≡◌, ◌/◌, ◌≤◌, length, get_or, sym, arith, rules}
-use Rattle.std.proofs.lemmas.Bool.Decides.{nat_tests}
+use Rattle.std.proofs.Common.{sym, rules}
 use Rattle.info.proofs.Tallies.{bit_set, bit_past}
 use Rattle.info.proofs.nulls.is_set.Goals as goal
 

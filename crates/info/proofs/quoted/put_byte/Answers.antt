@@ -1,5 +1,5 @@
 -- What is written is the byte, or its two hex digits.
-use Rattle.std.proofs.Common.{sym, ◌∙◌, arith}
+use Rattle.std.proofs.Common.{sym, arith}
 use Rattle.std.proofs.Output.{has_written_of_eq}
 use Rattle.info.proofs.Quoting.{plain_byte, escaped-byte}
 use Rattle.info.proofs.quoted.put_byte.Goals as goal

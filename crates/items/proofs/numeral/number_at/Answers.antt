@@ -1,5 +1,5 @@
 -- The ways through one turn, by the lemmas over plain numbers.
-use Rattle.std.proofs.Common.{◌≡◌, ◌<◌, get_or, refl, arith}
+use Rattle.std.proofs.Common.{refl, arith}
 use Rattle.items.proofs.Groups.{padded, ended, goes_on}
 use Rattle.items.proofs.numeral.number_at.Goals as goal
 

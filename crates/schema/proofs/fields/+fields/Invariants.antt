@@ -1,4 +1,4 @@
-use Rattle.std.proofs.Common.{ℕ, ◌+◌, ◌-◌, ◌*◌}
+use Rattle.std.proofs.Common.{◌+◌, ◌*◌}
 use Rattle.schema.proofs.fields.+fields.Given as goal
 use Rattle.items.proofs.Siblings.{Going}
 use Rattle.schema.specs.Fields.{field_table}

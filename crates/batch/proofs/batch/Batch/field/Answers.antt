@@ -1,4 +1,4 @@
-use Rattle.std.proofs.Common.{◌≡◌, vec_items, sym, ◌∙◌, inl, inr, arith, w32, to_z, of_z, rules}
+use Rattle.std.proofs.Common.{◌≡◌, vec_items, inl, inr, arith, w32, to_z, of_z, rules}
 use Rattle.std.proofs.lemmas.List.{get_or_read_under}
 use Rattle.schema.specs.Fields.{blank}
 use Rattle.batch.specs.Batches.{model}

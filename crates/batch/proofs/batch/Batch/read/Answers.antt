@@ -1,4 +1,4 @@
-use Rattle.std.proofs.Common.{◌≡◌, ℕ, length, Ok, Err, sym, refl, ap, ◌∙◌, arith}
+use Rattle.std.proofs.Common.{ℕ, length, sym, refl, ap, ◌∙◌, arith}
 use Rattle.batch.specs.Loaded.{read_in}
 use Rattle.batch.proofs.Accepted.{is_accepted, is_counted, is_roomy, is_standing, is_read, written, all_bytes, keeps_rules, none_kept}
 use Rattle.batch.proofs.batch.Batch.read.Goals as goal

@@ -1,9 +1,5 @@
-use Rattle.std.proofs.Common.{sym, refl, ◌∙◌, subst, arith}
-use Rattle.std.proofs.lemmas.Result.{err_from_is_err_and}
-use Rattle.items.specs.Cuts.{Standing}
-use Rattle.items.specs.Reading.{file}
+use Rattle.std.proofs.Common.{refl, ◌∙◌, arith}
 use Rattle.items.specs.Widths.{wide}
-use Rattle.items.proofs.Taken.{refuses-read}
 use Rattle.items.proofs.Placing.{starts, ends, breaks, goes, standing, ending}
 use Rattle.items.proofs.reader.Reader.offsets.Goals as goal
 

@@ -1,7 +1,6 @@
 use Rattle.std.proofs.Common.{◌+◌, length, take, drop, Ok, Err, sym, refl, ap, ◌∙◌, arith}
 use Rattle.meaning.specs.Items.{carry}
 use Rattle.fault.specs.Faults.{entry_of}
-use Rattle.items.specs.Reading.{rest}
 use Rattle.items.proofs.Taken.{from, text_from, text-cut, text-long, text_there}
 use Rattle.items.proofs.reader.Reader.text.Goals as goal
 
