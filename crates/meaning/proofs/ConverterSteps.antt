@@ -18,7 +18,7 @@ use Rattle.meaning.proofs.SlotSums.{Cuts}
 use Rattle.meaning.proofs.Spans.{list-cuts, map-cuts}
 use Rattle.meaning.proofs.AcceptedSteps.{step, IsPartner, partner_column}
 use Rattle.meaning.proofs.FieldPlaces.{held_child, found_child}
-use Rattle.std.specs.List.{AllByRecursion as All}
+use Rattle.std.specs.List.{AllByRecursion}
 use Rattle.std.proofs.ByRecursion.{All-weaker}
 use Rattle.meaning.proofs.SlotLists.{all_upto, all_from, all_both, upto-at, length_slots, slot_at, pairs_in, pairs_same, any_equal, any_none, none_any, sum_equal, each_equal, joined_equal}
 use Rattle.meaning.proofs.KeysBySlot.{alike_key}
@@ -81,7 +81,7 @@ module _ (x : Column) (l : ℕ) (k : Cuts x.len l (λ i. (span x i).0) (λ i. (s
   pub none-past : past_end x x.len l ≡ false
   none-past = any_none (λ i. ltb l (span x i).1) (upto x.len) (all_upto _ x.len (λ i h. le-ltb l (span x i).1 (k.inside i h)))
 
-  pub all_cut : (P : ℕ → Type 0) (i : ℕ) → i < x.len → ((j : ℕ) → j < l → P j) → All P (span_slots x i)
+  pub all_cut : (P : ℕ → Type 0) (i : ℕ) → i < x.len → ((j : ℕ) → j < l → P j) → AllByRecursion P (span_slots x i)
   all_cut P i h a = all_from P (span x i).0 ((span x i).1 - (span x i).0) (λ j t. a ((span x i).0 + j) (omega (arith, k.inside i h, k.ordered i h)))
 
 module _ (m : Model) (pick : Pick) where
@@ -263,7 +263,7 @@ module _ (m : Model) (pick : Pick) (cells : ℕ) where
     Live j = (j < (at m keyed).len) × (null (at m keyed) j ≡ false)
 
     module _ (whole : null_in_spans m c keyed ≡ false) where
-      live_cut : (i : ℕ) → i < (at m c).len → null (at m c) i ≡ false → All Live (span_slots (at m c) i)
+      live_cut : (i : ℕ) → i < (at m c).len → null (at m c) i ≡ false → AllByRecursion Live (span_slots (at m c) i)
       live_cut i h e =
           let test : ℕ → Bool = λ i. not (null (at m c) i) && any_of (λ j. null (at m keyed) j) (span_slots (at m c) i) in
           let a : test i ≡ false = upto-at (λ i. test i ≡ false) (at m c).len (none_any test (upto (at m c).len) whole) i h in

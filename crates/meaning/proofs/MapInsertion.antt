@@ -10,7 +10,7 @@ use Rattle.meaning.specs.Rows.{last_same, kept_from, kept}
 use Rattle.meaning.specs.Converter.{slot, kept_pairs}
 use Rattle.meaning.proofs.SlotLists.{any_push}
 use Rattle.meaning.proofs.KeyEquality.{integers, bytes, booleans, floats32, floats64}
-use Rattle.std.specs.List.{AllByRecursion as All}
+use Rattle.std.specs.List.{AllByRecursion}
 
 -- a map's pairs, put in one after another: a key that is there takes the new value at its place, another goes to the end;
 -- pairs are (key slot, value slot), as in `kept`
@@ -45,13 +45,13 @@ module _ (same : ℕ → ℕ → Bool) (l : PartialEquivalence same) where
   -- no two keys are one key
   abbrev Apart : List (ℕ × ℕ) → Type 0
   Apart [] = Unit {0}
-  Apart (kv ∷ kvs) = All (λ (lw : ℕ × ℕ). same kv.0 lw.0 ≡ false) kvs × Apart kvs
+  Apart (kv ∷ kvs) = AllByRecursion (λ (lw : ℕ × ℕ). same kv.0 lw.0 ≡ false) kvs × Apart kvs
 
-  all_inserted : (P : ℕ → Type 0) (kvs : List (ℕ × ℕ)) (j : ℕ) → All (λ (kv : ℕ × ℕ). P kv.0) kvs → P j → All (λ (kv : ℕ × ℕ). P kv.0) (inserted same kvs j)
+  all_inserted : (P : ℕ → Type 0) (kvs : List (ℕ × ℕ)) (j : ℕ) → AllByRecursion (λ (kv : ℕ × ℕ). P kv.0) kvs → P j → AllByRecursion (λ (kv : ℕ × ℕ). P kv.0) (inserted same kvs j)
   all_inserted P [] j a p = (p, tt)
   all_inserted P (kv ∷ kvs) j a p = go (same kv.0 j) (all_inserted P kvs j a.1 p)
     where
-      go : (b : Bool) → All (λ (kv : ℕ × ℕ). P kv.0) (inserted same kvs j) → All (λ (kv : ℕ × ℕ). P kv.0) (cond b ((kv.0, j) ∷ kvs) (kv ∷ inserted same kvs j))
+      go : (b : Bool) → AllByRecursion (λ (kv : ℕ × ℕ). P kv.0) (inserted same kvs j) → AllByRecursion (λ (kv : ℕ × ℕ). P kv.0) (cond b ((kv.0, j) ∷ kvs) (kv ∷ inserted same kvs j))
       go true r = (a.0, a.1)
       go false r = (a.0, r)
 
@@ -96,12 +96,12 @@ module _ (same : ℕ → ℕ → Bool) (l : PartialEquivalence same) where
   abbrev ahead : List ℕ → ℕ × ℕ → ℕ × ℕ
   ahead js kv = (kv.0, last_same (same kv.0) kv.1 js)
 
-  ahead_off : (j : ℕ) (js : List ℕ) (kvs : List (ℕ × ℕ)) → All (λ (kv : ℕ × ℕ). same kv.0 j ≡ false) kvs → each (ahead js) kvs ≡ each (ahead (j ∷ js)) kvs
+  ahead_off : (j : ℕ) (js : List ℕ) (kvs : List (ℕ × ℕ)) → AllByRecursion (λ (kv : ℕ × ℕ). same kv.0 j ≡ false) kvs → each (ahead js) kvs ≡ each (ahead (j ∷ js)) kvs
   ahead_off j js [] a = refl
   ahead_off j js (kv ∷ kvs) a =
       ap₂ ◌∷◌ (ap (λ (b : Bool). (kv.0, cond b (last_same (same kv.0) j js) (last_same (same kv.0) kv.1 js))) (sym a.0)) (ahead_off j js kvs a.1)
 
-  others_off : (k j : ℕ) (kvs : List (ℕ × ℕ)) → same k j ≡ true → All (λ (lw : ℕ × ℕ). same k lw.0 ≡ false) kvs → All (λ (kv : ℕ × ℕ). same kv.0 j ≡ false) kvs
+  others_off : (k j : ℕ) (kvs : List (ℕ × ℕ)) → same k j ≡ true → AllByRecursion (λ (lw : ℕ × ℕ). same k lw.0 ≡ false) kvs → AllByRecursion (λ (kv : ℕ × ℕ). same kv.0 j ≡ false) kvs
   others_off k j [] e a = tt
   others_off k j (kv ∷ kvs) e a =
       (⊎_elim (λ t. absurd (both_ways (same k kv.0) a.0 (l.join k j kv.0 e (l.flip kv.0 j t)))) (λ f. f) (cases_Bool (same kv.0 j)), others_off k j kvs e a.1)

@@ -1,7 +1,7 @@
 -- Numbers: groups of seven bits, written and read back, and read and written again.
 use Rattle.std.proofs.Common.{◌≡◌, ℕ, suc, ◌+◌, ◌-◌, ◌*◌, ◌/◌, ◌%◌, ◌^◌, ◌<◌, ◌≤◌, true, false, cond, ◌&&◌, eqb, ltb, leb, List, [], ◌∷◌, ◌++◌, length, sym, refl, ap, ◌∙◌, inl, inr, arith}
 use Rattle.std.proofs.lemmas.Bool.{cases_Bool, ltb-true, ltb-false, leb-true, leb-false, eqb-false, lt-ltb, le-ltb, le-leb, lt-leb, ne_eqb}
-use Rattle.std.specs.List.{AllByRecursion as All}
+use Rattle.std.specs.List.{AllByRecursion}
 use Rattle.meaning.specs.Items.{value, cut, long, groups, numeral}
 use Rattle.meaning.specs.Encode.{groups as written, numeral as number_bytes}
 
@@ -111,7 +111,7 @@ more j k p v u c e b bs low high q l w a =
     high_groups : n / 128 ≡ a.digits
     high_groups = omega arith
 
-again₄ : (v u c : ℕ) (bs : List ℕ) → All (λ b. b < 256) bs → groups 1 4 v bs ≡ value u c → Again 1 4 268435456 v u c bs 1 16
+again₄ : (v u c : ℕ) (bs : List ℕ) → AllByRecursion (λ b. b < 256) bs → groups 1 4 v bs ≡ value u c → Again 1 4 268435456 v u c bs 1 16
 again₄ v u c [] y h = absurd (no_value u c h)
 again₄ v u c (b ∷ bs) y h =
     elim (cases_Bool (leb 16 b)) [
@@ -125,8 +125,8 @@ again₄ v u c (b ∷ bs) y h =
     ]
 
 again_middle : (left k p high : ℕ) → 1 ≤ high → Middle left k p
-    → ((v u c : ℕ) (bs : List ℕ) → All (λ b. b < 256) bs → groups left (k + 1) v bs ≡ value u c → Again left (k + 1) (128 * p) v u c bs 1 high)
-    → (v u c : ℕ) (bs : List ℕ) → All (λ b. b < 256) bs → groups (suc left) k v bs ≡ value u c → Again (suc left) k p v u c bs 1 (128 * high)
+    → ((v u c : ℕ) (bs : List ℕ) → AllByRecursion (λ b. b < 256) bs → groups left (k + 1) v bs ≡ value u c → Again left (k + 1) (128 * p) v u c bs 1 high)
+    → (v u c : ℕ) (bs : List ℕ) → AllByRecursion (λ b. b < 256) bs → groups (suc left) k v bs ≡ value u c → Again (suc left) k p v u c bs 1 (128 * high)
 again_middle left k p high t m next v u c [] y h = absurd (no_value u c h)
 again_middle left k p high t m next v u c (b ∷ bs) y h =
     let g = sym (m v b bs) ∙ h in
@@ -141,16 +141,16 @@ again_middle left k p high t m next v u c (b ∷ bs) y h =
           ]
     ]
 
-again₃ : (v u c : ℕ) (bs : List ℕ) → All (λ b. b < 256) bs → groups 2 3 v bs ≡ value u c → Again 2 3 2097152 v u c bs 1 2048
+again₃ : (v u c : ℕ) (bs : List ℕ) → AllByRecursion (λ b. b < 256) bs → groups 2 3 v bs ≡ value u c → Again 2 3 2097152 v u c bs 1 2048
 again₃ = again_middle 1 3 2097152 16 (omega arith) (λ v b bs. refl) again₄
 
-again₂ : (v u c : ℕ) (bs : List ℕ) → All (λ b. b < 256) bs → groups 3 2 v bs ≡ value u c → Again 3 2 16384 v u c bs 1 262144
+again₂ : (v u c : ℕ) (bs : List ℕ) → AllByRecursion (λ b. b < 256) bs → groups 3 2 v bs ≡ value u c → Again 3 2 16384 v u c bs 1 262144
 again₂ = again_middle 2 2 16384 2048 (omega arith) (λ v b bs. refl) again₃
 
-again₁ : (v u c : ℕ) (bs : List ℕ) → All (λ b. b < 256) bs → groups 4 1 v bs ≡ value u c → Again 4 1 128 v u c bs 1 33554432
+again₁ : (v u c : ℕ) (bs : List ℕ) → AllByRecursion (λ b. b < 256) bs → groups 4 1 v bs ≡ value u c → Again 4 1 128 v u c bs 1 33554432
 again₁ = again_middle 3 1 128 262144 (omega arith) (λ v b bs. refl) again₂
 
-again₀ : (v u c : ℕ) (bs : List ℕ) → All (λ b. b < 256) bs → groups 5 0 v bs ≡ value u c → Again 5 0 1 v u c bs 0 4294967296
+again₀ : (v u c : ℕ) (bs : List ℕ) → AllByRecursion (λ b. b < 256) bs → groups 5 0 v bs ≡ value u c → Again 5 0 1 v u c bs 0 4294967296
 again₀ v u c [] y h = absurd (no_value u c h)
 again₀ v u c (b ∷ bs) y h =
     elim (cases_Bool (leb 128 b)) [
@@ -184,7 +184,7 @@ counted bs n c d rest e b u l = record {
   fits = omega arith;
 }
 
-pub number_again : (bs : List ℕ) (n c : ℕ) → All (λ b. b < 256) bs → numeral bs ≡ value n c → Counted bs n c
+pub number_again : (bs : List ℕ) (n c : ℕ) → AllByRecursion (λ b. b < 256) bs → numeral bs ≡ value n c → Counted bs n c
 number_again bs n c y h =
     let a = again₀ 0 n c bs y h in
     counted bs n c a.digits a.rest (omega (arith, a.total)) a.bytes (omega (arith, a.used)) a.most

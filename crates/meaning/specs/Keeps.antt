@@ -1,6 +1,6 @@
 -- The rules that a batch keeps: limits, what types hold, and the layouts of the Arrow columnar format.
 use Rattle.std.specs.Prelude.{◌≡◌, ℕ, ◌+◌, ◌-◌, ◌*◌, ◌/◌, ◌^◌, ◌<◌, ◌≤◌, max, List, [], ◌∷◌, length, ℤ, pos, negsuc, Some, None, Option}
-use Rattle.std.specs.List.{AllByRecursion as All}
+use Rattle.std.specs.List.{AllByRecursion}
 use Rattle.meaning.specs.Forest.{Forest, none, tree, size, count}
 use Rattle.meaning.specs.Model.{Model, Field, Column, Shape, prim, struct, list, map, Primitive, boolean, int, long, float, double, date, time, timestamp, timestamptz, timestamp_ns, timestamptz_ns, string, uuid, fixed, binary, Code, bits, words, variable, fixed_size_binary, structs, lists, large_lists, fixed_size_lists, maps}
 use Rattle.meaning.specs.Columns.{width_of, offset_of, first_len}
@@ -13,7 +13,7 @@ levels (tree h kids rest) = max (1 + levels kids) (levels rest)
 
 -- numbers below 256
 abbrev pub Bytes : List ℕ → Type 0
-Bytes bs = All (λ b. b < 256) bs
+Bytes bs = AllByRecursion (λ b. b < 256) bs
 
 -- a name or an id text: at most 255 bytes
 abbrev pub Short : List ℕ → Type 0
@@ -82,7 +82,7 @@ Cuts width x = (length x.offsets ≡ x.len + 1) × Rising (2 ^ (8 * width - 1)) 
 
 -- no offset is past the end of what it cuts
 abbrev pub Within : List ℕ → ℕ → Type 0
-Within os end = All (λ o. o ≤ end) os
+Within os end = AllByRecursion (λ o. o ≤ end) os
 
 -- a body of so many bytes, and no offsets and no columns below
 abbrev pub Stored : ℕ → Column → Forest Column → Type 0

@@ -2,7 +2,7 @@
 ghost use Rattle.std.specs.Prelude.{◌≡◌, ◌≤◌, IfOk, vec_len, string_bytes};
 ghost use Rattle.readcases.specs.Cases.{case_text};
 
-use crate::fault::CaseFault;
+use crate::case_fault::CaseFault;
 use crate::part::Part;
 use std::alloc::{AllocError, Global};
 

@@ -2,7 +2,7 @@
 ghost use Rattle.std.specs.Prelude.{◌≡◌, ℕ, ◌*◌, length, IfOk, vec_len, MatchResult};
 ghost use Rattle.readcases.specs.Hex.{IsDigit, IsByte};
 
-use crate::fault::CaseFault;
+use crate::case_fault::CaseFault;
 use std::alloc::Global;
 
 // The bytes of a hex string.

@@ -5,7 +5,7 @@
 #![tactic(auto)]
 
 mod case;
-mod fault;
+mod case_fault;
 mod hex;
 mod part;
 

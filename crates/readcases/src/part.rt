@@ -1,7 +1,7 @@
 // A part of a file: some bytes, and how many times they stand there.
 ghost use Rattle.std.specs.Prelude.{◌≡◌, ◌+◌, ◌*◌, ◌≤◌, vec_len, OnOk};
 
-use crate::fault::CaseFault;
+use crate::case_fault::CaseFault;
 use crate::hex;
 use std::alloc::Global;
 
