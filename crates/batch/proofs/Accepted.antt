@@ -1,3 +1,5 @@
+use Rattle.columns.specs.Entries.{ColumnEntry}
+use Rattle.schema.specs.Fields.{FieldEntry}
 -- From what was loaded to the batch in hand, and the law of reading.
 use Rattle.std.proofs.Common.{◌≡◌, ℕ, ◌<◌, ◌≤◌, Bool, true, false, cond, ◌||◌, ltb, List, length, get_or, is_ok, Ok, Err, vec_items, vec_len, Result, Vec, sym, refl, ap, ◌∙◌, subst, arith}
 use Rattle.std.proofs.ByRecursion.{All-from_get_or}
@@ -12,8 +14,6 @@ use Rattle.meaning.specs.Encode.{encode}
 use Rattle.meaning.specs.File.{decode}
 use Rattle.meaning.specs.Keeps.{Bytes, Keeps}
 use Rattle.meaning.proofs.Accepts.{accepts_law}
-use Rattle.schema.specs.declared.types.FieldEntry.{FieldEntry}
-use Rattle.columns.specs.declared.entry.ColumnEntry.{ColumnEntry}
 use Rattle.batch.specs.declared.load.Sizes.{Sizes}
 use Rattle.batch.specs.Loaded.{Loaded, Standing, decoded, or_empty, read_in, short}
 

@@ -1,4 +1,3 @@
-pub mod Filling
 pub mod Whole
 pub mod Accepted
 pub mod Sets

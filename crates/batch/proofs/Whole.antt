@@ -10,12 +10,10 @@ use Rattle.meaning.specs.Schema.{fields}
 use Rattle.meaning.specs.Columns.{columns, exact}
 use Rattle.meaning.specs.File.{whole, ended}
 use Rattle.items.proofs.Taken.{if_true, if_false, listed-byte, then_then}
-use Rattle.schema.specs.Fields.{schema_in}
-use Rattle.columns.specs.Entries.{columns_in}
+use Rattle.schema.specs.Fields.{FieldEntry, schema_in}
+use Rattle.columns.specs.Entries.{ColumnEntry, columns_in}
 use Rattle.fault.specs.declared.faults.BatchFault.{BatchFault}
 use Rattle.fault.specs.Faults.{batch_fault_of}
-use Rattle.schema.specs.declared.types.FieldEntry.{FieldEntry}
-use Rattle.columns.specs.declared.entry.ColumnEntry.{ColumnEntry}
 use Rattle.batch.specs.declared.load.Sizes.{Sizes}
 use Rattle.batch.specs.Loaded.{read_in, Loaded}
 

@@ -9,10 +9,8 @@ use Rattle.fault.specs.declared.faults.BatchFault.{BatchFault}
 use Rattle.fault.specs.Faults.{batch_fault_of}
 use Rattle.batch.specs.declared.load.Sizes.{Sizes}
 use Rattle.items.specs.Tables.{Stands}
-use Rattle.schema.specs.declared.types.FieldEntry.{FieldEntry}
-use Rattle.schema.specs.Fields.{field_table}
-use Rattle.columns.specs.declared.entry.ColumnEntry.{ColumnEntry}
-use Rattle.columns.specs.Entries.{column_table}
+use Rattle.schema.specs.Fields.{FieldEntry, field_table}
+use Rattle.columns.specs.Entries.{ColumnEntry, column_table}
 
 -- tables of so many fields and columns are too short
 abbrev pub short : ℕ → ℕ → Bool

@@ -9,9 +9,16 @@ use Rattle.items.specs.Cuts.{placed}
 use Rattle.items.specs.Widths.{wide}
 use Rattle.schema.specs.Forms.{shape_of}
 use Rattle.columns.specs.Codes.{code_meant}
-use Rattle.batch.specs.declared.view.Column.{Column}
-use Rattle.batch.specs.declared.view.Field.{Field}
+use Rattle.schema.specs.declared.types.Field.{Field as Field'}
+use Rattle.columns.specs.declared.entry.Column.{Column as Column'}
 use Rattle.batch.specs.declared.view.OffsetBuffer.{OffsetBuffer}
+
+-- a field and a column with the bytes of their parts
+abbrev pub Field : Type 0
+Field = Field' (Bor (List ℕ))
+
+abbrev pub Column : Type 0
+Column = Column' (Bor (List ℕ)) OffsetBuffer
 
 -- a head of a forest, and the number that comes after what is below it
 abbrev pub numbered : {H : Type 0} → ℕ → Option (H × Forest H) → Option (H × ℕ)

@@ -1,4 +1,4 @@
-ghost use Rattle.std.specs.Prelude.{◌≡◌, ◌+◌};
+ghost use Rattle.std.specs.Prelude.{◌≡◌, ◌+◌, ◌-◌, ◌<◌, ◌≤◌, ◌⊎◌, length, slice_get, MatchOption, Some};
 ghost use Rattle.batch.specs.Batches.{model};
 ghost use Rattle.batch.specs.Views.{column_seen, field_seen, maybe_part_of, numbered, offsets_seen};
 ghost use Rattle.columns.specs.Entries.{MaybeInside};
@@ -38,10 +38,7 @@ impl<'a> Batch<'a> {
     pub fn field(&self, n: usize) -> Option<Field<'a>>
         ensures { option_map field_seen result ≡ numbered n (find n 1 (model self.now).fields) }
     {
-        if n == 0 || n > self.sizes.fields {
-            return None;
-        }
-        let entry = self.tables.fields[n - 1];
+        let entry = numbered(&self.tables.fields, self.sizes.fields, n)?;
         let name = part(self.bytes, entry.name);
         Some(Field {
             id: entry.id,
@@ -56,10 +53,7 @@ impl<'a> Batch<'a> {
     pub fn column(&self, n: usize) -> Option<Column<'a>>
         ensures { option_map column_seen result ≡ numbered n (find n 1 (model self.now).columns) }
     {
-        if n == 0 || n > self.sizes.columns {
-            return None;
-        }
-        let entry = self.tables.columns[n - 1];
+        let entry = numbered(&self.tables.columns, self.sizes.columns, n)?;
         let name = part(self.bytes, entry.name);
         let id_text = maybe_part(self.bytes, entry.id_text);
         let validity = maybe_part(self.bytes, entry.validity);
@@ -78,6 +72,14 @@ impl<'a> Batch<'a> {
     }
 }
 
+// The entry with number `n` of the first `count`, which are numbered from 1.
+fn numbered<E: Copy>(table: &[E], count: usize, n: usize) -> Option<E>
+    requires { count ≤ length table.now }
+    ensures { MatchOption result ((n ≡ 0) ⊎ (count < n)) (λ e. ((1 ≤ n) × (n ≤ count)) × (slice_get table.now (n - 1) ≡ Some e)) }
+{
+    table[..count].get(n.checked_sub(1)?).copied()
+}
+
 // A part of the file.
 fn part(bytes: &[u8], span: Span) -> &[u8]
     requires { Inside bytes.now span }
@@ -93,10 +95,7 @@ fn maybe_part(bytes: &[u8], span: Option<Span>) -> Option<&[u8]>
     requires { MaybeInside bytes.now span }
     ensures { maybe_part_of result ≡ option_map (part_of bytes.now) span }
 {
-    match span {
-        Some(span) => Some(part(bytes, span)),
-        None => None,
-    }
+    span.map(|span| part(bytes, span))
 }
 
 // The bytes of offsets that stand in the file.

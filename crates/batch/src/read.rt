@@ -9,13 +9,12 @@ use crate::tables::Tables;
 
 impl<'a> Batch<'a> {
     // Reads a batch file. The work tables are handed over: an accepted file keeps them, a refused one gives them back blank.
-    pub fn read(bytes: &'a [u8], tables: Tables) -> Result<Batch<'a>, Unread>
+    pub fn read(bytes: &'a [u8], mut tables: Tables) -> Result<Batch<'a>, Unread>
         ensures decodes { said result ≡ read_in (vec_len tables.fields) (vec_len tables.columns) bytes.now }
         ensures same { Same (vec_len tables.fields) (vec_len tables.columns) bytes.now result }
         ensures emptied { Emptied (vec_len tables.fields) (vec_len tables.columns) result }
         ensures lawful { Lawful (vec_len tables.fields) (vec_len tables.columns) bytes.now result }
     {
-        let mut tables = tables;
         match load(
             bytes,
             tables.fields.as_mut_slice(),
@@ -38,11 +37,9 @@ impl<'a> Batch<'a> {
         ensures { Blank (vec_len self.entry.tables.fields) (vec_len self.entry.tables.columns) result }
     {
         let Batch {
-            bytes: _,
-            sizes: _,
-            tables,
+            tables: mut emptied,
+            ..
         } = self;
-        let mut emptied = tables;
         emptied.clear();
         emptied
     }

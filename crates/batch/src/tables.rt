@@ -2,7 +2,6 @@ ghost use Rattle.std.specs.Prelude.{◌≡◌, ℕ, IfOk, vec_len};
 ghost use Rattle.batch.specs.Blank.{Blank};
 
 use columns::ColumnEntry;
-use items::fill;
 use schema::FieldEntry;
 use std::alloc::{AllocError, Global};
 
@@ -34,7 +33,7 @@ impl Tables {
     pub(crate) fn clear(&mut self)
         ensures { Blank (vec_len self.old.fields) (vec_len self.old.columns) self.new }
     {
-        fill(self.fields.as_mut_slice(), FieldEntry::BLANK);
-        fill(self.columns.as_mut_slice(), ColumnEntry::BLANK);
+        self.fields.fill(FieldEntry::BLANK);
+        self.columns.fill(ColumnEntry::BLANK);
     }
 }

@@ -1,16 +1,7 @@
-use columns::Code;
 use items::Width;
-use schema::Kind;
 
 // A field of a batch in hand, and the number that comes after the fields below it.
-#[derive(Clone, Copy)]
-pub struct Field<'a> {
-    pub id: i32,
-    pub required: bool,
-    pub name: &'a [u8],
-    pub kind: Kind,
-    pub end: usize,
-}
+pub type Field<'a> = schema::Field<&'a [u8]>;
 
 // Offsets as they are stored: each has so many bytes, low byte first.
 #[derive(Clone, Copy)]
@@ -20,14 +11,4 @@ pub struct OffsetBuffer<'a> {
 }
 
 // A column of a batch in hand, and the number that comes after the columns below it.
-#[derive(Clone, Copy)]
-pub struct Column<'a> {
-    pub name: &'a [u8],
-    pub id_text: Option<&'a [u8]>,
-    pub code: Code,
-    pub len: usize,
-    pub validity: Option<&'a [u8]>,
-    pub offsets: OffsetBuffer<'a>,
-    pub body: &'a [u8],
-    pub end: usize,
-}
+pub type Column<'a> = columns::Column<&'a [u8], OffsetBuffer<'a>>;

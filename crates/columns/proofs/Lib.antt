@@ -2,4 +2,3 @@ pub mod Coded
 pub mod Siblings
 pub mod Heading
 pub mod Mapping
-pub mod Flat

@@ -1,8 +1,23 @@
--- The bodies of columns, layout by layout.
-use Rattle.std.specs.Prelude.{ℕ, ◌+◌, []}
-use Rattle.meaning.specs.Forest.{none}
+-- What stands after a column's head: its body, layout by layout.
+use Rattle.std.specs.Prelude.{ℕ, ◌+◌, List, []}
+use Rattle.meaning.specs.Forest.{Forest, none, size}
+use Rattle.meaning.specs.Model.{Column}
 use Rattle.meaning.specs.Items.{column, Read, ◌then◌, give, exactly, number}
-use Rattle.meaning.specs.Columns.{Body, Columns, body, free, offsets, values, past, unless}
+use Rattle.meaning.specs.Columns.{Body, Columns, after, body, exact, first_len, free, offsets, values, past, unless}
+use Rattle.items.specs.Cuts.{Fits, offsets_of}
+use Rattle.items.specs.Reading.{Inside, part}
+use Rattle.columns.specs.declared.body.Body.{Body as Body'}
+use Rattle.columns.specs.declared.length.Holder.{Holder}
+use Rattle.columns.specs.Holders.{held_by}
+
+-- what is read of a column after its head, with the columns below it
+abbrev pub body_meant : List ℕ → Body' → Forest Column → Body
+body_meant bytes b below = body (values (offsets_of bytes b.offsets)) (part bytes b.stored) below
+
+-- the offsets and the stored bytes of a body lie in the file
+pub record BodyInside (bytes : List ℕ) (b : Body') : Type 0 where
+  pub offsets : Fits bytes b.offsets
+  pub stored : Inside bytes b.stored
 
 -- so many stored bytes
 abbrev pub stored_from : ℕ → ℕ → Read Body
@@ -15,6 +30,18 @@ variable_from n w len =
     then (λ os. number (column n)
     then (λ k r. unless (past os k) n ((exactly (column n) k then (λ bs. give (body (values os) bs none))) r)))
 
--- offsets of w bytes and the child that they cut
-abbrev pub list_from : Columns → ℕ → ℕ → ℕ → Read Body
-list_from kids n w len = offsets w n (len + 1) 0 then (λ os. kids 1 free os n (n + 1) then (λ cs. give (body (values os) [] cs)))
+-- the columns of a holder, and the offsets by which it cuts them
+abbrev pub children_from : List ℕ → ℕ → ℕ → Holder → ℕ → Read Body
+children_from bytes level count h m = held_by bytes level count h m then (λ cs. give (body (values (offsets_of bytes h.cut)) [] cs))
+
+-- offsets of w bytes and the child that they cut, which has number m
+abbrev pub list_from : Columns → ℕ → ℕ → ℕ → ℕ → Read Body
+list_from kids n m w len = offsets w n (len + 1) 0 then (λ os. kids 1 free os n m then (λ cs. give (body (values os) [] cs)))
+
+-- offsets, the key column, which has number m, and the value column
+abbrev pub map_from : Columns → ℕ → ℕ → ℕ → Read Body
+map_from kids n m len =
+    offsets 4 n (len + 1) 0
+    then (λ os. kids 1 free os n m
+    then (λ ks. kids 1 (exact (first_len ks)) os n (m + size ks)
+    then (λ vs. give (body (values os) [] (after ks vs)))))

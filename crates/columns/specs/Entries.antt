@@ -1,11 +1,11 @@
 -- The table of columns: how an entry stands for a column.
 use Rattle.std.specs.Prelude.{ℕ, cond, List, [], Some, None, Option, nat_lt}
 use Rattle.std.specs.Option.{option_map}
-use Rattle.meaning.specs.Forest.{Forest, none, tree}
+use Rattle.meaning.specs.Forest.{Forest}
 use Rattle.meaning.specs.Model as model
-use Rattle.meaning.specs.Items.{Entry, head, Read, refused, ◌then◌, give, flag, number}
+use Rattle.meaning.specs.Items.{head, Read, refused, ◌then◌, number}
 use Rattle.meaning.specs.Columns as columns
-use Rattle.meaning.specs.Columns.{values, maybe}
+use Rattle.meaning.specs.Columns.{values}
 use Rattle.items.specs.declared.reader.Span.{Span}
 use Rattle.items.specs.declared.reader.Offsets.{Offsets}
 use Rattle.items.specs.declared.width.Width.TheVariants.{Four}
@@ -13,9 +13,12 @@ use Rattle.items.specs.Cuts.{Fits, offsets_of}
 use Rattle.items.specs.Reading.{Inside, part}
 use Rattle.items.specs.Tables.{Layout}
 use Rattle.columns.specs.declared.code.Code.TheVariants.{Boolean}
-use Rattle.columns.specs.declared.entry.ColumnEntry.{ColumnEntry}
-use Rattle.columns.specs.declared.entry.Body.{Body}
+use Rattle.columns.specs.declared.entry.Column.{Column}
 use Rattle.columns.specs.Codes.{code_meant}
+
+-- an entry of the table: a column whose parts are where they lie in the file
+abbrev pub ColumnEntry : Type 0
+ColumnEntry = Column Span Offsets
 
 -- no bytes, and no offsets
 abbrev pub no_bytes : Span
@@ -57,23 +60,6 @@ pub record Fitting (bytes : List ℕ) (e : ColumnEntry) : Type 0 where
 -- the table of columns as a kind of table
 abbrev pub column_table : Layout ColumnEntry model.Column
 column_table = record { blank = blank; fits = Fitting; says = column_of; end = λ e. e.end }
-
--- what is read of a column after its head, with the columns below it
-abbrev pub body_meant : List ℕ → Body → Forest model.Column → columns.Body
-body_meant bytes b below = columns.body (values (offsets_of bytes b.offsets)) (part bytes b.stored) below
-
--- the offsets and the stored bytes of a body lie in the file
-pub record BodyInside (bytes : List ℕ) (b : Body) : Type 0 where
-  pub offsets : Fits bytes b.offsets
-  pub stored : Inside bytes b.stored
-
--- a flag, and what follows it if it is 1
-abbrev pub optionally : {X : Type 0} → Entry → Read X → Read (Option X)
-optionally e m = flag e then (λ has. maybe has m)
-
--- one column, as a forest of its own
-abbrev pub one_column : columns.Columns → columns.Need → columns.Offsets → ℕ → ℕ → Read (Forest model.Column)
-one_column kids need os owner n = columns.columned kids need os owner n then (λ x. give (tree x.0 x.1 none))
 
 -- the number of top columns and the columns, read into a table of so many entries; fewer than 256 are too few
 abbrev pub columns_in : ℕ → ℕ → Read (Forest model.Column)

@@ -1,4 +1,6 @@
 pub mod Codes
-pub mod Needs
 pub mod Entries
+pub mod Holders
+pub mod Heads
 pub mod Bodies
+pub mod Text

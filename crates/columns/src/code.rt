@@ -1,13 +1,14 @@
-ghost use Rattle.std.specs.Prelude.{◌≡◌, true};
+ghost use Rattle.std.specs.Prelude.{◌≡◌, ℕ};
 ghost use Rattle.meaning.specs.Columns as columns;
 ghost use Rattle.items.specs.Reading.{Reads};
-ghost use Rattle.columns.specs.Codes.{code_meant, listed};
+ghost use Rattle.fault.specs.Faults.{entry_of};
+ghost use Rattle.columns.specs.Codes.{Formed, code_meant, size_from};
 
 use fault::{BatchFault, Entry, Refusal};
 use items::Reader;
 
 // A column's code, with its width or its size.
-#[derive(Clone, Copy)]
+#[derive(Clone, Copy, Debug, PartialEq, Eq)]
 pub enum Code {
     Boolean,
     Int32,
@@ -30,51 +31,72 @@ pub enum Code {
     Map,
 }
 
-// The code that belongs to a listed code byte and its width or size.
-fn code_of(code: u8, detail: u32) -> Code
-    requires { listed code ≡ true }
-    ensures { code_meant result ≡ columns.detailed code detail }
-{
-    match code {
-        1 => Code::Boolean,
-        2 => Code::Int32,
-        3 => Code::Int64,
-        4 => Code::Float32,
-        5 => Code::Float64,
-        7 => Code::Date32,
-        8 => Code::Time64Microsecond,
-        9 => Code::TimestampMicrosecond,
-        10 => Code::TimestampNanosecond,
-        11 => Code::Utf8,
-        12 => Code::LargeUtf8,
-        13 => Code::FixedSizeBinary(detail),
-        14 => Code::Binary,
-        15 => Code::LargeBinary,
-        16 => Code::Struct,
-        17 => Code::List,
-        18 => Code::LargeList,
-        19 => Code::FixedSizeList(detail),
-        _ => Code::Map,
+// How a column's code goes on after its byte: not at all, or with a width or a size.
+#[derive(Clone, Copy)]
+pub(crate) enum Form {
+    Plain(Code),
+    FixedSizeBinary,
+    FixedSizeList,
+}
+
+// A byte that is no column's code.
+#[derive(Clone, Copy)]
+pub(crate) struct UnknownCode;
+
+impl TryFrom<u8> for Form {
+    type Error = UnknownCode;
+
+    ghost try_from_gives = { Formed };
+
+    fn try_from(code: u8) -> Result<Self, UnknownCode> {
+        match code {
+            1 => Ok(Form::Plain(Code::Boolean)),
+            2 => Ok(Form::Plain(Code::Int32)),
+            3 => Ok(Form::Plain(Code::Int64)),
+            4 => Ok(Form::Plain(Code::Float32)),
+            5 => Ok(Form::Plain(Code::Float64)),
+            7 => Ok(Form::Plain(Code::Date32)),
+            8 => Ok(Form::Plain(Code::Time64Microsecond)),
+            9 => Ok(Form::Plain(Code::TimestampMicrosecond)),
+            10 => Ok(Form::Plain(Code::TimestampNanosecond)),
+            11 => Ok(Form::Plain(Code::Utf8)),
+            12 => Ok(Form::Plain(Code::LargeUtf8)),
+            13 => Ok(Form::FixedSizeBinary),
+            14 => Ok(Form::Plain(Code::Binary)),
+            15 => Ok(Form::Plain(Code::LargeBinary)),
+            16 => Ok(Form::Plain(Code::Struct)),
+            17 => Ok(Form::Plain(Code::List)),
+            18 => Ok(Form::Plain(Code::LargeList)),
+            19 => Ok(Form::FixedSizeList),
+            20 => Ok(Form::Plain(Code::Map)),
+            _ => Err(UnknownCode),
+        }
     }
 }
 
-// The code of column `n`, and the width or the size that it asks for, which may not be 0.
+// A width or a size, which may not be 0.
+fn read_size(reader: &mut Reader, entry: Entry) -> Result<u32, BatchFault>
+    ensures { Reads (λ (k : ℕ). k) (size_from (entry_of entry)) reader.old result reader.new }
+{
+    let start = reader.at;
+    let size = reader.limited(65536, entry)?;
+    if size == 0 {
+        return Err(BatchFault::new(Refusal::Unported, start, entry));
+    }
+    Ok(size)
+}
+
+// The code of column `n`, and the width or the size that it asks for.
 pub(crate) fn read_code(reader: &mut Reader, n: usize) -> Result<Code, BatchFault>
     ensures { Reads code_meant (columns.code_of n) reader.old result reader.new }
 {
     let entry = Entry::Column(n);
     let start = reader.at;
     let code = reader.byte(entry)?;
-    if code == 0 || code > 20 || code == 6 {
-        return Err(BatchFault::new(Refusal::Code, start, entry));
+    let form = Form::try_from(code).map_err(|_| BatchFault::new(Refusal::Code, start, entry))?;
+    match form {
+        Form::Plain(code) => Ok(code),
+        Form::FixedSizeBinary => read_size(reader, entry).map(Code::FixedSizeBinary),
+        Form::FixedSizeList => read_size(reader, entry).map(Code::FixedSizeList),
     }
-    if code != 13 && code != 19 {
-        return Ok(code_of(code, 0));
-    }
-    let item = reader.at;
-    let detail = reader.limited(65536, entry)?;
-    if detail == 0 {
-        return Err(BatchFault::new(Refusal::Unported, item, entry));
-    }
-    Ok(code_of(code, detail))
 }

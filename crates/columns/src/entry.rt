@@ -1,22 +1,26 @@
 use crate::code::Code;
 use items::{Offsets, Span, Width};
 
-// An entry of the table of columns: a column by the parts of the file that hold it, and the number after the columns below it.
+// A column, and the number after the columns below it. Its texts, bits, offsets and stored bytes are parts of a file: where they
+// lie there, in the table of columns, or the bytes themselves.
 #[derive(Clone, Copy)]
-pub struct ColumnEntry {
-    pub name: Span,
-    pub id_text: Option<Span>,
+pub struct Column<P, O> {
+    pub name: P,
+    pub id_text: Option<P>,
     pub code: Code,
     pub len: usize,
-    pub validity: Option<Span>,
-    pub offsets: Offsets,
-    pub body: Span,
+    pub validity: Option<P>,
+    pub offsets: O,
+    pub body: P,
     pub end: usize,
 }
 
+// An entry of the table of columns.
+pub type ColumnEntry = Column<Span, Offsets>;
+
 impl ColumnEntry {
     // The blank entry: all zero.
-    pub const BLANK: ColumnEntry = ColumnEntry {
+    pub const BLANK: ColumnEntry = Column {
         name: NO_BYTES,
         id_text: None,
         code: Code::Boolean,
@@ -37,11 +41,3 @@ pub(crate) const NO_OFFSETS: Offsets = Offsets {
 
 // No bytes, for a column that stores none of its own.
 pub(crate) const NO_BYTES: Span = Span { start: 0, len: 0 };
-
-// What follows a column's head: its offsets, its stored bytes, and the number after the columns below it.
-#[derive(Clone, Copy)]
-pub(crate) struct Body {
-    pub(crate) offsets: Offsets,
-    pub(crate) stored: Span,
-    pub(crate) end: usize,
-}

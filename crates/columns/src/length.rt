@@ -1,10 +1,14 @@
-ghost use Rattle.std.specs.Prelude.{◌≡◌, ℕ, ◌+◌, ◌*◌, ◌≤◌, length, IfOk};
+ghost use Rattle.std.specs.Prelude.{◌≡◌, ◌+◌, ◌*◌, ◌≤◌, length};
 ghost use Rattle.meaning.specs.Columns as columns;
 ghost use Rattle.items.specs.Cuts.{Fits, offsets_of};
 ghost use Rattle.items.specs.Reading.{Reads, file};
 ghost use Rattle.items.specs.Widths.{wide};
-ghost use Rattle.columns.specs.Needs.{need_of};
+ghost use Rattle.columns.specs.Entries.{no_offsets};
+ghost use Rattle.columns.specs.Holders.{need_of};
+ghost use Rattle.columns.specs.declared.slots.Slots.{Slots as Slo};
 
+use crate::entry::NO_OFFSETS;
+use crate::slots::Slots;
 use fault::{BatchFault, Entry, Refusal};
 use items::{Offsets, Reader};
 
@@ -30,25 +34,44 @@ impl Need {
     }
 }
 
-// The length of column `n`: its limit is tested, then the offsets `cut` of its holder `owner`, then what the holder asks.
+// What a column's holder asks of it: a length, and that no offset of the holder's passes it.
+#[derive(Clone, Copy)]
+pub(crate) struct Holder {
+    pub(crate) need: Need,
+    pub(crate) cut: Offsets,
+    pub(crate) owner: usize,
+}
+
+impl Holder {
+    // A holder that has no offsets.
+    pub(crate) fn uncut(need: Need, owner: usize) -> Self
+        ensures { result ≡ record { need = need; cut = no_offsets; owner = owner } }
+    {
+        Holder {
+            need,
+            cut: NO_OFFSETS,
+            owner,
+        }
+    }
+}
+
+// The length of column `n`: its limit is tested, then the offsets of its holder, then what the holder asks.
 pub(crate) fn read_length(
     reader: &mut Reader,
     n: usize,
-    need: Need,
-    cut: Offsets,
-    owner: usize,
-) -> Result<usize, BatchFault>
-    requires { Fits (file reader.old) cut }
-    ensures reads { Reads (λ (k : ℕ). k) (columns.length_of n (need_of need) (offsets_of (file reader.old) cut) owner) reader.old result reader.new }
-    ensures small { IfOk result (λ (k : ℕ). k ≤ 65536) }
+    holder: Holder,
+) -> Result<Slots, BatchFault>
+    requires { Fits (file reader.old) holder.cut }
+    ensures { Reads (λ (s : Slo). s.count) (columns.length_of n (need_of holder.need) (offsets_of (file reader.old) holder.cut) holder.owner) reader.old result reader.new }
 {
     let start = reader.at;
-    let len = reader.limited(65536, Entry::Column(n))? as usize;
-    if let Some(byte) = reader.first_past(cut, len as u64) {
-        return Err(BatchFault::new(Refusal::Offset, byte, Entry::Column(owner)));
+    let len = reader.limited(65536, Entry::Column(n))?;
+    if let Some(byte) = reader.first_past(holder.cut, u64::from(len)) {
+        return Err(BatchFault::new(Refusal::Offset, byte, Entry::Column(holder.owner)));
     }
-    if !need.met_by(len) {
+    let count = len as usize;
+    if !holder.need.met_by(count) {
         return Err(BatchFault::new(Refusal::Length, start, Entry::Column(n)));
     }
-    Ok(len)
+    Ok(Slots { count })
 }

@@ -2,22 +2,24 @@ ghost use Rattle.std.specs.Prelude.{◌≡◌, ℕ, ◌+◌, ◌*◌, ◌≤◌,
 ghost use Rattle.meaning.specs.Columns as columns;
 ghost use Rattle.meaning.specs.Forest.{Forest};
 ghost use Rattle.meaning.specs.Model as model;
-ghost use Rattle.items.specs.Cuts.{Fits, offsets_of};
+ghost use Rattle.items.specs.Cuts.{Fits};
 ghost use Rattle.items.specs.Reading.{file};
-ghost use Rattle.items.specs.Tables.{Fills};
+ghost use Rattle.items.specs.Tables.{Enters, Fills};
 ghost use Rattle.items.specs.Widths.{wide};
-ghost use Rattle.columns.specs.Bodies.{list_from};
+ghost use Rattle.columns.specs.Bodies.{BodyInside, body_meant, children_from, list_from, map_from};
 ghost use Rattle.columns.specs.Codes.{code_meant};
-ghost use Rattle.columns.specs.Entries.{BodyInside, blank, body_meant, column_table, columns_in, one_column};
-ghost use Rattle.columns.specs.Needs.{need_of};
-ghost use Rattle.columns.specs.declared.entry.Body.{Body as Bod};
+ghost use Rattle.columns.specs.Entries.{blank, column_table, columns_in};
+ghost use Rattle.columns.specs.Heads.{column_from};
+ghost use Rattle.columns.specs.Holders.{held_by};
 
-use crate::body::{read_id_text, read_stored, read_validity, read_variable};
-use crate::code::{Code, read_code};
-use crate::entry::{Body, ColumnEntry, NO_BYTES, NO_OFFSETS};
-use crate::length::{Need, read_length};
+use crate::body::{Body, read_stored, read_variable};
+use crate::code::Code;
+use crate::entry::{ColumnEntry, NO_BYTES};
+use crate::head::read_head;
+use crate::length::{Holder, Need};
+use crate::slots::Slots;
 use fault::{BatchFault, Entry, Refusal};
-use items::{Offsets, Reader, Width};
+use items::{EntryReader, Reader, Width};
 
 // The number of top columns of a batch, and its columns, each as long as there are rows. Gives the number that comes after them.
 // A refused reading leaves the reader where it was and the table blank.
@@ -31,14 +33,12 @@ pub fn read_batch_columns(
     ensures stays { OnErr result (reader.new.at ≡ reader.old.at) }
 {
     let start = reader.at;
-    match read_counted(reader, table, rows) {
-        Ok(end) => Ok(end),
-        Err(fault) => {
-            reader.at = start;
-            table.fill(ColumnEntry::BLANK);
-            Err(fault)
-        }
+    let read = read_counted(reader, table, rows);
+    if read.is_err() {
+        reader.at = start;
+        table.fill(ColumnEntry::BLANK);
     }
+    read
 }
 
 // The same, with whatever a refusal leaves.
@@ -53,196 +53,163 @@ fn read_counted(
         return Err(BatchFault::new(Refusal::Limit, 0, Entry::Head));
     }
     let count = reader.number(Entry::Head)?;
-    read_columns(
+    let batch = Holder::uncut(Need::Exact(rows), 0);
+    let mut to = EntryReader {
         reader,
         table,
-        16,
-        count,
-        Need::Exact(rows),
-        NO_OFFSETS,
-        0,
-        1,
-    )
+        next: 1,
+    };
+    read_columns(&mut to, 16, count, batch)?;
+    Ok(to.next)
 }
 
-// Columns side by side, `count` of them, numbered from `n` on; `level` levels are left for them. Their holder `owner` cuts them by
-// the offsets `cut` and asks `need` of their lengths. Gives the number that comes next.
+// Columns side by side, `count` of them, of which their holder asks so much; `level` levels are left for them.
 #[cycle(columns)]
 fn read_columns(
-    reader: &mut Reader,
-    table: &mut [ColumnEntry],
+    to: &mut EntryReader<ColumnEntry>,
     level: usize,
     count: u32,
-    need: Need,
-    cut: Offsets,
-    owner: usize,
-    n: usize,
-) -> Result<usize, BatchFault>
-    requires { (256 ≤ length table.old) × ((1 ≤ n) × (Fits (file reader.old) cut)) }
-    ensures { Fills column_table (λ (m : ℕ). m) (λ _ (cs : Forest model.Column). cs) (columns.columns level count (need_of need) (offsets_of (file reader.old) cut) owner n) n reader.old table.old result reader.new table.new }
+    holder: Holder,
+) -> Result<(), BatchFault>
+    requires { Fits (file to.old.reader.now) holder.cut }
+    ensures { Enters column_table (λ _ (cs : Forest model.Column). cs) (held_by (file to.old.reader.now) level count holder to.old.next) to.old.next to.old result to.new }
 {
-    let mut next = n;
     for _ in 0..count {
-        if level == 0 || next > 256 {
-            return Err(BatchFault::new(Refusal::Limit, reader.at, Entry::Column(next)));
+        if level == 0 || to.next > 256 {
+            return Err(BatchFault::new(Refusal::Limit, to.reader.at, Entry::Column(to.next)));
         }
-        next = read_column(reader, table, level - 1, need, cut, owner, next)?;
+        read_column(to, level - 1, holder)?;
     }
-    Ok(next)
+    Ok(())
 }
 
-// Column `n`, and the columns that it holds at `level` levels below it. Gives the number that comes next.
+// The next column, and the columns that it holds at `level` levels below it.
 #[cycle(columns)]
 fn read_column(
-    reader: &mut Reader,
-    table: &mut [ColumnEntry],
+    to: &mut EntryReader<ColumnEntry>,
     level: usize,
-    need: Need,
-    cut: Offsets,
-    owner: usize,
-    n: usize,
-) -> Result<usize, BatchFault>
-    requires { (256 ≤ length table.old) × ((1 ≤ n) × ((n ≤ 256) × (Fits (file reader.old) cut))) }
-    ensures { Fills column_table (λ (m : ℕ). m) (λ _ (cs : Forest model.Column). cs) (one_column (columns.columns level) (need_of need) (offsets_of (file reader.old) cut) owner n) n reader.old table.old result reader.new table.new }
+    holder: Holder,
+) -> Result<(), BatchFault>
+    requires { (to.old.next ≤ 256) × Fits (file to.old.reader.now) holder.cut }
+    ensures { Enters column_table (λ _ (cs : Forest model.Column). cs) (column_from (file to.old.reader.now) level holder to.old.next) to.old.next to.old result to.new }
 {
-    let entry = Entry::Column(n);
-    let name = reader.text(entry)?;
-    let id_text = read_id_text(reader, entry)?;
-    let code = read_code(reader, n)?;
-    let len = read_length(reader, n, need, cut, owner)?;
-    let validity = read_validity(reader, entry, len)?;
-    let body = read_body(reader, table, level, code, len, n)?;
-    table[n - 1] = ColumnEntry {
-        name,
-        id_text,
-        code,
-        len,
-        validity,
+    let n = to.next;
+    let head = read_head(to.reader, n, holder)?;
+    let body = read_body(to, level, head.code, head.len)?;
+    to.table[n - 1] = ColumnEntry {
+        name: head.name,
+        id_text: head.id_text,
+        code: head.code,
+        len: head.len.count,
+        validity: head.validity,
         offsets: body.offsets,
         body: body.stored,
-        end: body.end,
+        end: to.next,
     };
-    Ok(body.end)
+    Ok(())
 }
 
-// What follows the head of column `n`, of this code and length, with the columns that it holds.
+// What follows the head of the next column, of this code and length, with the columns that it holds.
 #[cycle(columns)]
 fn read_body(
-    reader: &mut Reader,
-    table: &mut [ColumnEntry],
+    to: &mut EntryReader<ColumnEntry>,
     level: usize,
     code: Code,
-    len: usize,
-    n: usize,
+    len: Slots,
 ) -> Result<Body, BatchFault>
-    requires { (256 ≤ length table.old) × ((1 ≤ n) × ((n ≤ 256) × (len ≤ 65536))) }
-    ensures fills { Fills column_table (λ (b : Bod). b.end) (λ (b : Bod) (cs : Forest model.Column). body_meant (file reader.old) b cs) (columns.body_of (columns.columns level) n len (code_meant code)) (n + 1) reader.old table.old result reader.new table.new }
-    ensures inside { IfOk result (BodyInside (file reader.old)) }
+    requires { to.old.next ≤ 256 }
+    ensures fills { Enters column_table (body_meant (file to.old.reader.now)) (columns.body_of (columns.columns level) to.old.next len.count (code_meant code)) (to.old.next + 1) to.old result to.new }
+    ensures inside { IfOk result (BodyInside (file to.old.reader.now)) }
 {
+    let n = to.next;
+    to.next += 1;
     match code {
-        Code::Boolean => read_stored(reader, n, (len + 7) / 8),
-        Code::Int32 | Code::Float32 | Code::Date32 => read_stored(reader, n, len * 4),
+        Code::Boolean => read_stored(to.reader, n, len.bitmap_len()),
+        Code::Int32 | Code::Float32 | Code::Date32 => { read_stored(to.reader, n, len.count * 4) }
         Code::Int64
         | Code::Float64
         | Code::Time64Microsecond
         | Code::TimestampMicrosecond
-        | Code::TimestampNanosecond => read_stored(reader, n, len * 8),
-        Code::FixedSizeBinary(width) => read_stored(reader, n, len * width as usize),
-        Code::Utf8 | Code::Binary => read_variable(reader, n, Width::Four, len),
-        Code::LargeUtf8 | Code::LargeBinary => read_variable(reader, n, Width::Eight, len),
+        | Code::TimestampNanosecond => read_stored(to.reader, n, len.count * 8),
+        Code::FixedSizeBinary(width) => { read_stored(to.reader, n, len.count * width as usize) }
+        Code::Utf8 | Code::Binary => read_variable(to.reader, n, Width::Four, len),
+        Code::LargeUtf8 | Code::LargeBinary => { read_variable(to.reader, n, Width::Eight, len) }
         Code::Struct => {
-            let count = reader.number(Entry::Column(n))?;
-            let end = read_columns(
-                reader,
-                table,
-                level,
-                count,
-                Need::Exact(len),
-                NO_OFFSETS,
-                n,
-                n + 1,
-            )?;
-            Ok(Body {
-                offsets: NO_OFFSETS,
-                stored: NO_BYTES,
-                end,
-            })
+            let count = to.reader.number(Entry::Column(n))?;
+            read_children(to, level, count, Holder::uncut(Need::Exact(len.count), n))
         }
-        Code::List => read_list(reader, table, level, Width::Four, len, n),
-        Code::LargeList => read_list(reader, table, level, Width::Eight, len, n),
+        Code::List => read_list(to, level, n, Width::Four, len),
+        Code::LargeList => read_list(to, level, n, Width::Eight, len),
         Code::FixedSizeList(size) => {
-            let end = read_columns(
-                reader,
-                table,
-                level,
-                1,
-                Need::Parts(size, len),
-                NO_OFFSETS,
-                n,
-                n + 1,
-            )?;
-            Ok(Body {
-                offsets: NO_OFFSETS,
-                stored: NO_BYTES,
-                end,
-            })
+            read_children(to, level, 1, Holder::uncut(Need::Parts(size, len.count), n))
         }
-        Code::Map => read_map(reader, table, level, len, n),
+        Code::Map => read_map(to, level, n, len),
     }
 }
 
-// The offsets and the child of a list column.
+// The columns that a column holds, `count` of them, as its body.
 #[cycle(columns)]
-fn read_list(
-    reader: &mut Reader,
-    table: &mut [ColumnEntry],
+fn read_children(
+    to: &mut EntryReader<ColumnEntry>,
     level: usize,
-    width: Width,
-    len: usize,
-    n: usize,
+    count: u32,
+    holder: Holder,
 ) -> Result<Body, BatchFault>
-    requires { (256 ≤ length table.old) × ((1 ≤ n) × ((n ≤ 256) × (len ≤ 65536))) }
-    ensures fills { Fills column_table (λ (b : Bod). b.end) (λ (b : Bod) (cs : Forest model.Column). body_meant (file reader.old) b cs) (list_from (columns.columns level) n (wide width) len) (n + 1) reader.old table.old result reader.new table.new }
-    ensures inside { IfOk result (BodyInside (file reader.old)) }
+    requires { Fits (file to.old.reader.now) holder.cut }
+    ensures fills { Enters column_table (body_meant (file to.old.reader.now)) (children_from (file to.old.reader.now) level count holder to.old.next) to.old.next to.old result to.new }
+    ensures inside { IfOk result (BodyInside (file to.old.reader.now)) }
 {
-    let offsets = reader.offsets(width, len + 1, n)?;
-    let end = read_columns(reader, table, level, 1, Need::Free, offsets, n, n + 1)?;
+    read_columns(to, level, count, holder)?;
     Ok(Body {
-        offsets,
+        offsets: holder.cut,
         stored: NO_BYTES,
-        end,
     })
 }
 
-// The offsets, the key column and the value column of a map column. The value column has the key column's length.
+// The offsets and the child of list column `n`.
+#[cycle(columns)]
+fn read_list(
+    to: &mut EntryReader<ColumnEntry>,
+    level: usize,
+    n: usize,
+    width: Width,
+    len: Slots,
+) -> Result<Body, BatchFault>
+    ensures fills { Enters column_table (body_meant (file to.old.reader.now)) (list_from (columns.columns level) n to.old.next (wide width) len.count) to.old.next to.old result to.new }
+    ensures inside { IfOk result (BodyInside (file to.old.reader.now)) }
+{
+    let offsets = to.reader.offsets(width, len.count + 1, n)?;
+    let holder = Holder {
+        need: Need::Free,
+        cut: offsets,
+        owner: n,
+    };
+    read_children(to, level, 1, holder)
+}
+
+// The offsets, the key column and the value column of map column `n`. The value column has the key column's length.
 #[cycle(columns)]
 fn read_map(
-    reader: &mut Reader,
-    table: &mut [ColumnEntry],
+    to: &mut EntryReader<ColumnEntry>,
     level: usize,
-    len: usize,
     n: usize,
+    len: Slots,
 ) -> Result<Body, BatchFault>
-    requires { (256 ≤ length table.old) × ((1 ≤ n) × ((n ≤ 256) × (len ≤ 65536))) }
-    ensures fills { Fills column_table (λ (b : Bod). b.end) (λ (b : Bod) (cs : Forest model.Column). body_meant (file reader.old) b cs) (columns.body_of (columns.columns level) n len model.maps) (n + 1) reader.old table.old result reader.new table.new }
-    ensures inside { IfOk result (BodyInside (file reader.old)) }
+    ensures fills { Enters column_table (body_meant (file to.old.reader.now)) (map_from (columns.columns level) n to.old.next len.count) to.old.next to.old result to.new }
+    ensures inside { IfOk result (BodyInside (file to.old.reader.now)) }
 {
-    let offsets = reader.offsets(Width::Four, len + 1, n)?;
-    let value = read_columns(reader, table, level, 1, Need::Free, offsets, n, n + 1)?;
-    let pairs = table[n].len;
-    let end = read_columns(
-        reader,
-        table,
-        level,
-        1,
-        Need::Exact(pairs),
-        offsets,
-        n,
-        value,
-    )?;
-    Ok(Body {
-        offsets,
-        stored: NO_BYTES,
-        end,
-    })
+    let offsets = to.reader.offsets(Width::Four, len.count + 1, n)?;
+    let keys = Holder {
+        need: Need::Free,
+        cut: offsets,
+        owner: n,
+    };
+    let key = to.next;
+    read_columns(to, level, 1, keys)?;
+    let pairs = to.table[key - 1].len;
+    let values = Holder {
+        need: Need::Exact(pairs),
+        ..keys
+    };
+    read_children(to, level, 1, values)
 }

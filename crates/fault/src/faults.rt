@@ -5,7 +5,7 @@ ghost use Rattle.fault.specs.declared.faults.RunFault.TheVariants.{Batch, Step};
 use crate::refusal::Refusal;
 
 // Whose item was refused: the file's own numbers, a field or a column.
-#[derive(Clone, Copy)]
+#[derive(Clone, Copy, Debug, PartialEq, Eq)]
 pub enum Entry {
     Head,
     Field(usize),
@@ -13,21 +13,21 @@ pub enum Entry {
 }
 
 // A refusal, and the byte at which the refused item begins.
-#[derive(Clone, Copy)]
+#[derive(Clone, Copy, Debug, PartialEq, Eq)]
 pub struct BytesFault {
     pub refusal: Refusal,
     pub byte: usize,
 }
 
 // A bytes fault whole, and the entry whose item it is.
-#[derive(Clone, Copy)]
+#[derive(Clone, Copy, Debug, PartialEq, Eq)]
 pub struct BatchFault {
     pub bytes: BytesFault,
     pub entry: Entry,
 }
 
 // A refused step: the column that was questioned, and the field.
-#[derive(Clone, Copy)]
+#[derive(Clone, Copy, Debug, PartialEq, Eq)]
 pub struct StepFault {
     pub refusal: Refusal,
     pub column: usize,
@@ -35,7 +35,7 @@ pub struct StepFault {
 }
 
 // Why a run ended: a fault of the file or of a step, whole.
-#[derive(Clone, Copy)]
+#[derive(Clone, Copy, Debug, PartialEq, Eq)]
 pub enum RunFault {
     Batch(BatchFault),
     Step(StepFault),

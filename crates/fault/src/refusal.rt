@@ -1,53 +1,53 @@
 ghost use Rattle.std.specs.Prelude.{◌≡◌};
 ghost use Rattle.fault.specs.Numbers.{number_of};
 
-// Why a call refuses.
-#[derive(Clone, Copy)]
+// Why a call refuses, with its number in the table of refusals.
+#[derive(Clone, Copy, Debug, PartialEq, Eq)]
 pub enum Refusal {
     // the bytes end before an item does
-    Cut,
+    Cut = 1,
     // a number's fifth byte is 16 or more, or the number is not in its shortest form
-    LongNumber,
+    LongNumber = 2,
     // an edition, code or flag byte that is not listed
-    Code,
+    Code = 3,
     // a limit of the format is passed, or the work tables are too short
-    Limit,
+    Limit = 4,
     // an offset is negative, below the one before it, or past the end of what it cuts
-    Offset,
+    Offset = 5,
     // a column's length is not the one that its holder requires
-    Length,
+    Length = 6,
     // type Decimal; a struct, list or map as a map's key type; width 0 or size 0
-    Unported,
+    Unported = 7,
     // bytes follow the last column
-    Leftover,
+    Leftover = 8,
     // a number handed in names no field or column, or none of the kind that the call is for
-    NoPlace,
+    NoPlace = 9,
     // the struct partner or a field is sought in a column that is no struct
-    NoStruct,
+    NoStruct = 10,
     // the accessor picks no child for the field
-    NoMatch,
+    NoMatch = 11,
     // an element is sought, or a list is cut, in a column that is no list
-    NoList,
+    NoList = 12,
     // a key or value is sought, or a map is cut, in a column that is no map
-    NoMap,
+    NoMap = 13,
     // a primitive type meets a column code that it does not accept
-    WrongColumn,
+    WrongColumn = 14,
     // a null in a required struct field, where its struct is not null
-    NullField,
+    NullField = 15,
     // a null in a required element or map value, in the span of a slot that is not null
-    NullElement,
+    NullElement = 16,
     // a struct's field result has not as many rows as the struct's column
-    UnevenRows,
+    UnevenRows = 17,
     // key and value results differ in length
-    UnevenPairs,
+    UnevenPairs = 18,
     // a null key in the span of a slot that is not null
-    NullKey,
+    NullKey = 19,
     // a span ends past the element result, or past the key and value results
-    ShortChild,
+    ShortChild = 20,
     // the cells that a step needs do not fit, or too few results are lent to a walk
-    NoCells,
+    NoCells = 21,
     // a 257th id
-    FullTable,
+    FullTable = 22,
 }
 
 impl Refusal {
@@ -55,29 +55,6 @@ impl Refusal {
     pub fn number(self) -> u8
         ensures { result ≡ number_of self }
     {
-        match self {
-            Refusal::Cut => 1,
-            Refusal::LongNumber => 2,
-            Refusal::Code => 3,
-            Refusal::Limit => 4,
-            Refusal::Offset => 5,
-            Refusal::Length => 6,
-            Refusal::Unported => 7,
-            Refusal::Leftover => 8,
-            Refusal::NoPlace => 9,
-            Refusal::NoStruct => 10,
-            Refusal::NoMatch => 11,
-            Refusal::NoList => 12,
-            Refusal::NoMap => 13,
-            Refusal::WrongColumn => 14,
-            Refusal::NullField => 15,
-            Refusal::NullElement => 16,
-            Refusal::UnevenRows => 17,
-            Refusal::UnevenPairs => 18,
-            Refusal::NullKey => 19,
-            Refusal::ShortChild => 20,
-            Refusal::NoCells => 21,
-            Refusal::FullTable => 22,
-        }
+        self as u8
     }
 }

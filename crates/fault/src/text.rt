@@ -4,6 +4,7 @@ ghost use Rattle.std.specs.Prelude.{Some};
 ghost use Rattle.fault.specs.Faults.{entry_of, batch_fault_of, step_fault_of, run_fault_line};
 
 use crate::faults::{BatchFault, Entry, RunFault, StepFault};
+use std::error::Error;
 use std::fmt;
 
 // As `head 0`, `field 2` or `column 3`.
@@ -53,3 +54,9 @@ impl fmt::Display for RunFault {
         }
     }
 }
+
+impl Error for BatchFault {}
+
+impl Error for StepFault {}
+
+impl Error for RunFault {}

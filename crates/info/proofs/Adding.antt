@@ -1,11 +1,12 @@
 -- The loop that adds the lines of trees side by side.
-use Rattle.std.proofs.Common.{◌≡◌, ℕ, ◌+◌, ◌<◌, ◌≤◌, true, false, leb, List, [], ◌∷◌, ◌++◌, Some, None, Ok, Option, sym, refl, ap, ◌∙◌, subst, inl, inr, append_assoc, append-nil, arith}
+use Rattle.std.proofs.Common.{◌≡◌, ℕ, ◌+◌, ◌<◌, ◌≤◌, true, false, leb, List, [], ◌∷◌, ◌++◌, Some, None, Option, sym, ap, ◌∙◌, inl, inr, append_assoc, arith}
 use Rattle.std.proofs.lemmas.Bool.Decides.{nat_tests, eqb_tells}
+use Rattle.std.specs.Fmt.{AppendsText, ◌++?◌}
 use Rattle.meaning.specs.Forest.{Forest, none, tree, size, find}
 use Rattle.items.proofs.Taken.{if_true, if_false}
 use Rattle.batch.specs.Views.{numbered}
 use Rattle.info.specs.Lines.{lines}
-use Rattle.info.specs.Segments.{Added, siblings_from, between}
+use Rattle.info.specs.Segments.{siblings_from, between, written}
 use Rattle.info.proofs.Segments.{First, first_of, empty, found_first, kids_from, rest_from}
 
 module _ {H : Type 0} (w : Forest H) (line : ℕ → ℕ → H → List ℕ) where
@@ -17,17 +18,7 @@ module _ {H : Type 0} (w : Forest H) (line : ℕ → ℕ → H → List ℕ) whe
     pub from : first ≤ n
     pub text : now ++ lines line level n (between w n end) ≡ before ++ lines line level first (between w first end)
 
-  pub starts : (level first end : ℕ) (t : List ℕ) → end ≡ first + size (between w first end) → level ≤ first → 1 ≤ first → Putting level first end first t t
-  starts level first end t e d p = record { left = e; deep = d; numbers = p; from = omega arith; text = refl }
-
   module _ {level first end n : ℕ} {before now : List ℕ} (p : Putting level first end n before now) where
-    -- all lines are added
-    pub ended : end ≤ n → now ≡ before ++ lines line level first (between w first end)
-    ended h =
-        let t : leb end n ≡ true = grind (arith, nat_tests) in
-        let s : between w n end ≡ none = if_true _ _ t in
-        sym (append-nil now) ∙ ap (λ f. now ++ lines line level n f) (sym s) ∙ p.text
-
     module _ (more : n < end) where
       opened : between w n end ≡ siblings_from n 1 w
       opened = let t : leb end n ≡ false = grind (arith, nat_tests) in if_false _ _ t
@@ -42,18 +33,19 @@ module _ {H : Type 0} (w : Forest H) (line : ℕ → ℕ → H → List ℕ) whe
       sized = let l = p.left in let s = ap size this.is in omega arith
 
       here : find n 1 w ≡ Some (this.head, this.kids)
-      here = found_first n this.head this.kids this.rest 1 w stands
+      here = found_first n this.head this.kids this.rest 1 w stands p.numbers
 
-      -- the entry is there
-      pub not_missing : numbered n (find n 1 w) ≡ None → ⊥
-      not_missing e = let bad = sym (ap (numbered n) here) ∙ e in let z : ◌≡◌ {A = ℕ} 0 1 = cc in omega arith
+      -- an entry is there
+      pub not_missing : {L : Type 0} (output : L → Option (List ℕ)) → written output None ≡ written (λ h. Some (line level n h)) (numbered n (find n 1 w)) → ⊥
+      not_missing output e = let bad = e ∙ ap (λ o. written (λ h. Some (line level n h)) (numbered n o)) here in cc
 
-      module _ (h : H) (next : ℕ) (at : numbered n (find n 1 w) ≡ Some (h, next)) where
-        pair : ◌≡◌ {A = H × ℕ} (this.head, n + 1 + size this.kids) (h, next)
-        pair = let e : ◌≡◌ {A = Option (H × ℕ)} (Some (this.head, n + 1 + size this.kids)) (Some (h, next)) = sym (ap (numbered n) here) ∙ at in cc
+      -- what is given is its line, and the number after its subtree
+      module _ {L : Type 0} (output : L → Option (List ℕ)) (l : L) (next : ℕ) (given : written output (Some (l, next)) ≡ written (λ h. Some (line level n h)) (numbered n (find n 1 w))) where
+        both : ◌≡◌ {A = Option (List ℕ) × ℕ} (output l, next) (Some (line level n this.head), n + 1 + size this.kids)
+        both = let e = given ∙ ap (λ o. written (λ h. Some (line level n h)) (numbered n o)) here in cc
 
         after : n + 1 + size this.kids ≡ next
-        after = ap (λ (x : H × ℕ). x.1) pair
+        after = sym (ap (λ (x : Option (List ℕ) × ℕ). x.1) both)
 
         kids_are : between w (n + 1) next ≡ this.kids
         kids_are =
@@ -76,43 +68,27 @@ module _ {H : Type 0} (w : Forest H) (line : ℕ → ℕ → H → List ℕ) whe
                   if_false _ _ l ∙ ap (λ k. siblings_from k 1 w) (sym a) ∙ rest_from n this.head this.kids this.rest 1 w stands p.numbers (omega (arith, u.1))
             ]
 
-        -- what the call for the trees below asks
-        pub below_asks : next ≡ n + 1 + size (between w (n + 1) next)
-        below_asks = sym after ∙ ap (λ f. n + 1 + size f) (sym kids_are)
-
-        pub forward : n < next
-        forward = let a = after in omega arith
-
-        pub within : next ≤ end
-        within = let a = after in let s = sized in omega arith
+        -- what the call for the trees below asks: they are fewer, and end within
+        pub below_asks : (n < next) × (next ≤ end) × (next ≡ n + 1 + size (between w (n + 1) next))
+        below_asks = let a = after in let s = sized in (omega arith, omega arith, sym after ∙ ap (λ f. n + 1 + size f) (sym kids_are))
 
         -- its line and those below it are added
-        pub goes_on : (t1 t2 : List ℕ) → t1 ≡ now ++ (line level n h ++ (10 ∷ [])) → t2 ≡ t1 ++ lines line (level + 1) (n + 1) (between w (n + 1) next) → Putting level first end next before t2
+        pub goes_on : (t1 t2 : List ℕ) → AppendsText now t1 (output l ++? Some (10 ∷ [])) → t2 ≡ t1 ++ lines line (level + 1) (n + 1) (between w (n + 1) next) → Putting level first end next before t2
         goes_on t1 t2 e1 e2 =
-            let head : this.head ≡ h = ap (λ (x : H × ℕ). x.0) pair in
             let below : List ℕ = lines line (level + 1) (n + 1) this.kids in
             let others : List ℕ = lines line level (n + 1 + size this.kids) this.rest in
-            let written : t2 ≡ (now ++ (line level n this.head ++ (10 ∷ []))) ++ below =
-            e2 ∙ ap (λ f. t1 ++ lines line (level + 1) (n + 1) f) kids_are ∙ ap (λ t. t ++ below) (e1 ∙ ap (λ x. now ++ (line level n x ++ (10 ∷ []))) (sym head))
-            in
+            let put : t1 ≡ now ++ (line level n this.head ++ (10 ∷ [])) = rw (ap (λ (x : Option (List ℕ) × ℕ). x.0) both) at e1 in
+            let written : t2 ≡ (now ++ (line level n this.head ++ (10 ∷ []))) ++ below = e2 ∙ ap (λ f. t1 ++ lines line (level + 1) (n + 1) f) kids_are ∙ ap (λ t. t ++ below) put in
             let tail : lines line level next (between w next end) ≡ others = ap (lines line level next) rest_is ∙ ap (λ k. lines line level k this.rest) (sym after) in
             let all : ((now ++ (line level n this.head ++ (10 ∷ []))) ++ below) ++ others ≡ now ++ lines line level n (tree this.head this.kids this.rest) = simp append_assoc in
             record {
               left = sized ∙ (let a = after in let r = ap size rest_is in omega arith);
-              deep = let d = p.deep in let f = forward in omega arith;
-              numbers = let f = forward in omega arith;
-              from = let f = forward in let g = p.from in omega arith;
+              deep = let d = p.deep in let b = below_asks in omega arith;
+              numbers = let b = below_asks in omega arith;
+              from = let b = below_asks in let g = p.from in omega arith;
               text = ap (λ t. t ++ lines line level next (between w next end)) written ∙ ap (λ l. ((now ++ (line level n this.head ++ (10 ∷ []))) ++ below) ++ l) tail ∙ all
                   ∙ ap (λ f. now ++ lines line level n f) (sym this.is) ∙ p.text;
             }
-
--- what a call that adds a line says, once it is known which way it went
-pub got_line : (E : Type 0) {H : Type 0} (line : H → List ℕ) (at : Option (H × ℕ)) (before after : List ℕ) (o : Option ℕ) (next : ℕ) → o ≡ Some next → Added {E = E} line at before (Ok o) after
-    → (h : H) × (at ≡ Some (h, next)) × (after ≡ before ++ (line h ++ (10 ∷ [])))
-got_line E line at before after o next e a = subst (λ x. Added {E = E} line at before (Ok x) after) e a
-
-pub got_none : (E : Type 0) {H : Type 0} (line : H → List ℕ) (at : Option (H × ℕ)) (before after : List ℕ) (o : Option ℕ) → o ≡ None → Added {E = E} line at before (Ok o) after → at ≡ None
-got_none E line at before after o e a = (subst (λ x. Added {E = E} line at before (Ok x) after) e a).0
 
 -- all trees of a forest
 pub whole-between : {H : Type 0} (f : Forest H) (k : ℕ) → k ≡ size f → between f 1 (k + 1) ≡ f

@@ -1,4 +1,3 @@
-mod Naming
 mod Quoting
 mod Tallies
 mod Worked

@@ -1,17 +1,7 @@
 -- The text of a whole batch.
-use Rattle.std.proofs.Common.{◌≡◌, ℕ, ◌+◌, ◌^◌, ◌<◌, List, ◌++◌, length, IfOk, Ok, vec_len, string_bytes, codes, decimal as written, Result, String, sym, ap, ◌∙◌, subst}
-use Rattle.std.proofs.lemmas.List.{length-replicate}
-use Rattle.std.specs.declared.alloc.AllocError.{AllocError}
-use Rattle.std.specs.declared.alloc.Global.{Global}
+use Rattle.std.proofs.Common.{◌≡◌, ℕ, ◌+◌, ◌^◌, ◌<◌, List, ◌++◌, Ok, codes, decimal as written, sym, ap, ◌∙◌}
 use Rattle.meaning.specs.Forest.{size}
-use Rattle.meaning.specs.File.{decode}
-use Rattle.meaning.specs.Items.{BatchFault as Fault}
 use Rattle.meaning.specs.Model.{Model}
-use Rattle.schema.specs.Fields as fields
-use Rattle.columns.specs.Entries as columns
-use Rattle.batch.specs.declared.tables.Tables.{Tables}
-use Rattle.batch.specs.Blank.{Blank}
-use Rattle.batch.specs.Loaded.{read_in}
 use Rattle.fault.proofs.Decimal.{decimal-written}
 use Rattle.info.specs.Lines.{column_line, field_line, lines, report_text, rows_line}
 use Rattle.info.specs.Segments.{between}
@@ -29,13 +19,3 @@ batch-text m rows fc cc t0 t1 t2 r small f c e0 e1 e2 =
     e2 ∙ ap (λ x. t1 ++ lines column_line 1 1 x) (whole-between m.columns cc c)
     ∙ ap (λ t. t ++ lines column_line 1 1 m.columns) (e1 ∙ ap (λ x. t0 ++ lines field_line 1 1 x) (whole-between m.fields fc f) ∙ ap (λ t. t ++ lines field_line 1 1 m.fields) (e0 ∙ rows-line rows small))
     ∙ ap (λ n. rows_line n ++ codes "\n" ++ lines field_line 1 1 m.fields ++ lines column_line 1 1 m.columns) r
-
--- new work tables are not too short, so what is read is what the file means
-pub reads-file : (t : Tables) → Blank 256 256 t → (bytes : List ℕ) (x : Result Model Fault) → x ≡ read_in (vec_len t.fields) (vec_len t.columns) bytes → x ≡ decode bytes
-reads-file t b bytes x e =
-    let f : vec_len t.fields ≡ 256 = t.fields.ok.0 ∙ ap length b.fields ∙ length-replicate 256 fields.blank in
-    let c : vec_len t.columns ≡ 256 = t.columns.ok.0 ∙ ap length b.columns ∙ length-replicate 256 columns.blank in
-    e ∙ ap (λ k. read_in k (vec_len t.columns) bytes) f ∙ ap (λ k. read_in 256 k bytes) c
-
-pub same_text : (r : Result (String Global) AllocError) (a b : List ℕ) → a ≡ b → IfOk r (λ s. string_bytes s ≡ a) → IfOk r (λ s. string_bytes s ≡ b)
-same_text r a b e m = subst (λ x. IfOk r (λ s. string_bytes s ≡ x)) e m

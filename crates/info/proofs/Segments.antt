@@ -1,9 +1,21 @@
 -- Trees side by side, found by the number of the first.
-use Rattle.std.proofs.Common.{◌≡◌, ℕ, ◌+◌, ◌<◌, ◌≤◌, true, false, eqb, ltb, Some, sym, refl, ap, ◌∙◌, inl, inr, arith}
-use Rattle.std.proofs.lemmas.Bool.Decides.{nat_tests, eqb_tells, leb_tells}
+use Rattle.std.proofs.Common.{◌≡◌, ℕ, ◌+◌, ◌<◌, ◌≤◌, true, false, cond, eqb, ltb, Some, sym, refl, ap, ◌∙◌, inl, inr, arith}
+use Rattle.std.proofs.lemmas.Bool.{cases_lt}
+use Rattle.std.proofs.lemmas.Bool.Decides.{nat_tests}
 use Rattle.meaning.specs.Forest.{Forest, none, tree, size, find}
 use Rattle.items.proofs.Taken.{if_true, if_false}
 use Rattle.info.specs.Segments.{siblings_from}
+
+-- which of three stands for number k: the first is for n, the second for those below m, the third for m and above
+module _ {A : Type 0} (k n m : ℕ) (x y z : A) where
+  is_first : k ≡ n → cond (eqb k n) x (cond (ltb k m) y z) ≡ x
+  is_first e = let a : eqb k n ≡ true = grind (arith, nat_tests) in if_true _ _ a
+
+  is_below : n < k → k < m → cond (eqb k n) x (cond (ltb k m) y z) ≡ y
+  is_below l r = let a : eqb k n ≡ false = grind (arith, nat_tests) in let b : ltb k m ≡ true = grind (arith, nat_tests) in if_false _ _ a ∙ if_true _ _ b
+
+  is_past : n < m → m ≤ k → cond (eqb k n) x (cond (ltb k m) y z) ≡ z
+  is_past l r = let a : eqb k n ≡ false = grind (arith, nat_tests) in let b : ltb k m ≡ false = grind (arith, nat_tests) in if_false _ _ a ∙ if_false _ _ b
 
 module _ {H : Type 0} where
   -- the first tree, what is below it, and the trees after it
@@ -24,108 +36,74 @@ module _ {H : Type 0} where
   -- from its first number on, a forest is itself
   start : (k n : ℕ) (f : Forest H) → k ≡ n → siblings_from k n f ≡ f
   start k n none e = refl
-  start k n (tree x kids rest) e = let t : eqb k n ≡ true = grind (arith, nat_tests) in if_true _ _ t
+  start k n (tree x ks rs) e = is_first k n (n + 1 + size ks) _ _ _ e
 
-  never : {h : H} {kids rest : Forest H} → none ≡ tree h kids rest → ⊥
-  never e = let z : ◌≡◌ {A = ℕ} 0 1 = cc in omega arith
+  -- the trees from number k on are all of them, or stand below the first, or after it
+  data Place (k n : ℕ) (x : H) (ks rs found : Forest H) : Type 0 where
+    all : k ≡ n → tree x ks rs ≡ found → Place k n x ks rs found
+    below : n < k → k < n + 1 + size ks → siblings_from k (n + 1) ks ≡ found → Place k n x ks rs found
+    past : n + 1 + size ks ≤ k → siblings_from k (n + 1 + size ks) rs ≡ found → Place k n x ks rs found
+
+  place : (k n : ℕ) (x : H) (ks rs found : Forest H) → siblings_from k n (tree x ks rs) ≡ found → n ≤ k → Place k n x ks rs found
+  place k n x ks rs found e low =
+      elim (cases_lt n k) [
+        | inl l ↦
+            elim (cases_lt k (n + 1 + size ks)) [
+              | inl r ↦ below l r (sym (is_below k n (n + 1 + size ks) _ _ _ l r) ∙ e)
+              | inr r ↦ past r (sym (is_past k n (n + 1 + size ks) _ _ _ (omega arith) r) ∙ e)
+            ]
+        | inr r ↦ all (omega arith) (sym (is_first k n (n + 1 + size ks) _ _ _ (omega arith)) ∙ e)
+      ]
 
   module _ (k : ℕ) (h : H) (kids rest : Forest H) where
     -- what stands at the number is the first of those trees
-    pub found_first : (n : ℕ) (f : Forest H) → siblings_from k n f ≡ tree h kids rest → find k n f ≡ Some (h, kids)
-    found_first n none e = absurd (never e)
-    found_first n (tree x ks rs) e =
-        elim (eqb_tells k n) [
-          | inl t ↦
-              let same : tree x ks rs ≡ tree h kids rest = sym (if_true _ _ t.0) ∙ e in
-              if_true _ _ t.0 ∙ (let a : x ≡ h = cc in let b : ks ≡ kids = cc in (λ i. Some (a i, b i)))
-          | inr u ↦
-              elim (leb_tells (k + 1) (n + 1 + size ks)) [
-                | inl t ↦
-                    let below : ltb k (n + 1 + size ks) ≡ true = grind (arith, nat_tests) in
-                    if_false _ _ u.0 ∙ if_true _ _ below ∙ found_first (n + 1) ks (sym (if_false _ _ u.0 ∙ if_true _ _ below) ∙ e)
-                | inr v ↦
-                    let past : ltb k (n + 1 + size ks) ≡ false = grind (arith, nat_tests) in
-                    if_false _ _ u.0 ∙ if_false _ _ past ∙ found_first (n + 1 + size ks) rs (sym (if_false _ _ u.0 ∙ if_false _ _ past) ∙ e)
-              ]
+    pub found_first : (n : ℕ) (f : Forest H) → siblings_from k n f ≡ tree h kids rest → n ≤ k → find k n f ≡ Some (h, kids)
+    found_first n none e low = cc
+    found_first n (tree x ks rs) e low =
+        elim (place k n x ks rs (tree h kids rest) e low) [
+          | all at same ↦ is_first k n (n + 1 + size ks) _ _ _ at ∙ (let a : x ≡ h = cc in let b : ks ≡ kids = cc in (λ i. Some (a i, b i)))
+          | below l r inner ↦ is_below k n (n + 1 + size ks) _ _ _ l r ∙ found_first (n + 1) ks inner (omega arith)
+          | past r inner ↦ is_past k n (n + 1 + size ks) _ _ _ (omega arith) r ∙ found_first (n + 1 + size ks) rs inner r
         ]
 
     -- they end within the forest
     bound : (n : ℕ) (f : Forest H) → siblings_from k n f ≡ tree h kids rest → n ≤ k → k + 1 + size kids + size rest ≤ n + size f
-    bound n none e low = absurd (never e)
+    bound n none e low = cc
     bound n (tree x ks rs) e low =
-        elim (eqb_tells k n) [
-          | inl t ↦
-              let same : tree x ks rs ≡ tree h kids rest = sym (if_true _ _ t.0) ∙ e in
-              let s = ap size same in
-              omega (arith, t.1)
-          | inr u ↦
-              elim (leb_tells (k + 1) (n + 1 + size ks)) [
-                | inl t ↦
-                    let below : ltb k (n + 1 + size ks) ≡ true = grind (arith, nat_tests) in
-                    omega (arith, bound (n + 1) ks (sym (if_false _ _ u.0 ∙ if_true _ _ below) ∙ e) (omega (arith, u.1)))
-                | inr v ↦
-                    let past : ltb k (n + 1 + size ks) ≡ false = grind (arith, nat_tests) in
-                    omega (arith, bound (n + 1 + size ks) rs (sym (if_false _ _ u.0 ∙ if_false _ _ past) ∙ e) (omega (arith, v.1)))
-              ]
+        elim (place k n x ks rs (tree h kids rest) e low) [
+          | all at same ↦ let s = ap size same in omega arith
+          | below l r inner ↦ omega (arith, bound (n + 1) ks inner (omega arith))
+          | past r inner ↦ omega (arith, bound (n + 1 + size ks) rs inner r)
         ]
 
     -- the trees below the first begin at the next number
     pub kids_from : (n : ℕ) (f : Forest H) → siblings_from k n f ≡ tree h kids rest → n ≤ k → 0 < size kids → siblings_from (k + 1) n f ≡ kids
-    kids_from n none e low some = absurd (never e)
+    kids_from n none e low some = cc
     kids_from n (tree x ks rs) e low some =
-        let next : eqb (k + 1) n ≡ false = grind (arith, nat_tests) in
-        elim (eqb_tells k n) [
-          | inl t ↦
-              let same : tree x ks rs ≡ tree h kids rest = sym (if_true _ _ t.0) ∙ e in
+        elim (place k n x ks rs (tree h kids rest) e low) [
+          | all at same ↦
               let b : ks ≡ kids = cc in
-              let l = ap size b in
-              let at = t.1 in
-              let below : ltb (k + 1) (n + 1 + size ks) ≡ true = grind (arith, nat_tests) in
-              if_false _ _ next ∙ if_true _ _ below ∙ start (k + 1) (n + 1) ks (omega arith) ∙ b
-          | inr u ↦
-              elim (leb_tells (k + 1) (n + 1 + size ks)) [
-                | inl t ↦
-                    let below : ltb k (n + 1 + size ks) ≡ true = grind (arith, nat_tests) in
-                    let inner = sym (if_false _ _ u.0 ∙ if_true _ _ below) ∙ e in
-                    let low' : n + 1 ≤ k = omega (arith, u.1) in
-                    let b = bound (n + 1) ks inner low' in
-                    let below' : ltb (k + 1) (n + 1 + size ks) ≡ true = grind (arith, nat_tests) in
-                    if_false _ _ next ∙ if_true _ _ below' ∙ kids_from (n + 1) ks inner low' some
-                | inr v ↦
-                    let past : ltb k (n + 1 + size ks) ≡ false = grind (arith, nat_tests) in
-                    let at = v.1 in
-                    let past' : ltb (k + 1) (n + 1 + size ks) ≡ false = grind (arith, nat_tests) in
-                    if_false _ _ next ∙ if_false _ _ past' ∙ kids_from (n + 1 + size ks) rs (sym (if_false _ _ u.0 ∙ if_false _ _ past) ∙ e) (omega arith) some
-              ]
+              let s = ap size b in
+              is_below (k + 1) n (n + 1 + size ks) _ _ _ (omega arith) (omega arith) ∙ start (k + 1) (n + 1) ks (omega arith) ∙ b
+          | below l r inner ↦
+              let b = bound (n + 1) ks inner (omega arith) in
+              is_below (k + 1) n (n + 1 + size ks) _ _ _ (omega arith) (omega arith) ∙ kids_from (n + 1) ks inner (omega arith) some
+          | past r inner ↦ is_past (k + 1) n (n + 1 + size ks) _ _ _ (omega arith) (omega arith) ∙ kids_from (n + 1 + size ks) rs inner r some
         ]
 
     -- the trees after the first begin after those below it
     pub rest_from : (n : ℕ) (f : Forest H) → siblings_from k n f ≡ tree h kids rest → n ≤ k → 0 < size rest → siblings_from (k + 1 + size kids) n f ≡ rest
-    rest_from n none e low some = absurd (never e)
+    rest_from n none e low some = cc
     rest_from n (tree x ks rs) e low some =
-        let next : eqb (k + 1 + size kids) n ≡ false = grind (arith, nat_tests) in
-        elim (eqb_tells k n) [
-          | inl t ↦
-              let same : tree x ks rs ≡ tree h kids rest = sym (if_true _ _ t.0) ∙ e in
+        let next = k + 1 + size kids in
+        elim (place k n x ks rs (tree h kids rest) e low) [
+          | all at same ↦
               let b : ks ≡ kids = cc in
               let r : rs ≡ rest = cc in
-              let l = ap size b in
-              let at = t.1 in
-              let past : ltb (k + 1 + size kids) (n + 1 + size ks) ≡ false = grind (arith, nat_tests) in
-              if_false _ _ next ∙ if_false _ _ past ∙ start (k + 1 + size kids) (n + 1 + size ks) rs (omega arith) ∙ r
-          | inr u ↦
-              elim (leb_tells (k + 1) (n + 1 + size ks)) [
-                | inl t ↦
-                    let below : ltb k (n + 1 + size ks) ≡ true = grind (arith, nat_tests) in
-                    let inner = sym (if_false _ _ u.0 ∙ if_true _ _ below) ∙ e in
-                    let low' : n + 1 ≤ k = omega (arith, u.1) in
-                    let b = bound (n + 1) ks inner low' in
-                    let below' : ltb (k + 1 + size kids) (n + 1 + size ks) ≡ true = grind (arith, nat_tests) in
-                    if_false _ _ next ∙ if_true _ _ below' ∙ rest_from (n + 1) ks inner low' some
-                | inr v ↦
-                    let past : ltb k (n + 1 + size ks) ≡ false = grind (arith, nat_tests) in
-                    let at = v.1 in
-                    let past' : ltb (k + 1 + size kids) (n + 1 + size ks) ≡ false = grind (arith, nat_tests) in
-                    if_false _ _ next ∙ if_false _ _ past' ∙ rest_from (n + 1 + size ks) rs (sym (if_false _ _ u.0 ∙ if_false _ _ past) ∙ e) (omega arith) some
-              ]
+              let s = ap size b in
+              is_past next n (n + 1 + size ks) _ _ _ (omega arith) (omega arith) ∙ start next (n + 1 + size ks) rs (omega arith) ∙ r
+          | below l r inner ↦
+              let b = bound (n + 1) ks inner (omega arith) in
+              is_below next n (n + 1 + size ks) _ _ _ (omega arith) (omega arith) ∙ rest_from (n + 1) ks inner (omega arith) some
+          | past r inner ↦ is_past next n (n + 1 + size ks) _ _ _ (omega arith) (omega arith) ∙ rest_from (n + 1 + size ks) rs inner r some
         ]

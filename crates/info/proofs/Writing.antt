@@ -5,7 +5,9 @@ use Rattle.std.specs.Fmt.{signed_decimal}
 use Rattle.fault.proofs.Decimal.{decimal-written, integer-written}
 use Rattle.meaning.specs.Model.{Field, Column}
 use Rattle.meaning.specs.Text.{decimal}
-use Rattle.info.specs.Lines.{quoted, type_text, code_text, nulls, id_text, required_text, field_line, column_line}
+use Rattle.schema.specs.Text.{type_text}
+use Rattle.columns.specs.Text.{code_text}
+use Rattle.info.specs.Lines.{quoted, nulls, id_text, required_text, field_line, column_line}
 
 -- pieces as they are written, and as a line joins them
 twelve : (a b c d e f g h i j k l : List ℕ) → a ++ (b ++ (c ++ (d ++ (e ++ (f ++ (g ++ (h ++ (i ++ (j ++ (k ++ l)))))))))) ≡ a ++ b ++ c ++ d ++ e ++ f ++ g ++ h ++ i ++ j ++ k ++ l

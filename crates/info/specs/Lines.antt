@@ -1,11 +1,14 @@
 -- The lines that say what a batch holds, as bytes of ASCII.
 use Rattle.std.specs.Prelude.{ℕ, ◌+◌, Bool, true, false, cond, not, ◌&&◌, List, [], ◌∷◌, ◌++◌, Some, None, Ok, Err, codes, Option, Result, ◌==◌, nat_le}
+use Rattle.std.specs.List.{flat_map}
 use Rattle.meaning.specs.Forest.{Forest, none, tree, size}
-use Rattle.meaning.specs.Model.{Primitive, boolean, int, long, float, double, date, time, timestamp, timestamptz, timestamp_ns, timestamptz_ns, string, uuid, fixed, binary, Shape, prim, struct, list, map, Field, Word, int32, int64, float32, float64, date32, time64, micros, nanos, Variable, utf8, large_utf8, binaries, large_binary, Code, bits, words, variable, fixed_size_binary, structs, lists, large_lists, fixed_size_lists, maps, Column, Model}
+use Rattle.meaning.specs.Model.{Field, Column, Model}
 use Rattle.meaning.specs.Slots.{null}
 use Rattle.meaning.specs.Lists.{tally, upto}
 use Rattle.meaning.specs.Items.{BatchFault}
 use Rattle.meaning.specs.Text.{decimal, integer, hex, batch_fault_line}
+use Rattle.schema.specs.Text.{type_text}
+use Rattle.columns.specs.Text.{code_text}
 
 -- printable ASCII but the double quote and the backslash
 abbrev pub printable : ℕ → Bool
@@ -17,67 +20,11 @@ quoted_byte b = cond (printable b) (b ∷ []) (codes "\\x" ++ hex 2 b)
 
 -- bytes one after the other
 abbrev pub escaped : List ℕ → List ℕ
-escaped [] = []
-escaped (b ∷ bs) = quoted_byte b ++ escaped bs
+escaped = flat_map quoted_byte
 
 -- bytes between double quotes
 abbrev pub quoted : List ℕ → List ℕ
 quoted bs = codes "\"" ++ escaped bs ++ codes "\""
-
--- the names of the Iceberg table specification
-abbrev pub primitive_text : Primitive → List ℕ
-primitive_text boolean = codes "boolean"
-primitive_text int = codes "int"
-primitive_text long = codes "long"
-primitive_text float = codes "float"
-primitive_text double = codes "double"
-primitive_text date = codes "date"
-primitive_text time = codes "time"
-primitive_text timestamp = codes "timestamp"
-primitive_text timestamptz = codes "timestamptz"
-primitive_text timestamp_ns = codes "timestamp_ns"
-primitive_text timestamptz_ns = codes "timestamptz_ns"
-primitive_text string = codes "string"
-primitive_text uuid = codes "uuid"
-primitive_text (fixed n) = codes "fixed[" ++ decimal n ++ codes "]"
-primitive_text binary = codes "binary"
-
--- the type of a field, without what it holds
-abbrev pub type_text : Shape → List ℕ
-type_text (prim p) = primitive_text p
-type_text struct = codes "struct"
-type_text list = codes "list"
-type_text map = codes "map"
-
--- the names that Arrow programs print
-abbrev pub word_text : Word → List ℕ
-word_text int32 = codes "int32"
-word_text int64 = codes "int64"
-word_text float32 = codes "float32"
-word_text float64 = codes "float64"
-word_text date32 = codes "date32"
-word_text time64 = codes "time64[us]"
-word_text micros = codes "timestamp[us]"
-word_text nanos = codes "timestamp[ns]"
-
--- the same for bytes of any length
-abbrev pub variable_text : Variable → List ℕ
-variable_text utf8 = codes "utf8"
-variable_text large_utf8 = codes "large_utf8"
-variable_text binaries = codes "binary"
-variable_text large_binary = codes "large_binary"
-
--- the code of a column, with its width or size
-abbrev pub code_text : Code → List ℕ
-code_text bits = codes "boolean"
-code_text (words w) = word_text w
-code_text (variable v) = variable_text v
-code_text (fixed_size_binary w) = codes "fixed_size_binary[" ++ decimal w ++ codes "]"
-code_text structs = codes "struct"
-code_text lists = codes "list"
-code_text large_lists = codes "large_list"
-code_text (fixed_size_lists s) = codes "fixed_size_list[" ++ decimal s ++ codes "]"
-code_text maps = codes "map"
 
 -- how many of a column's slots are null
 abbrev pub nulls : Column → ℕ

@@ -1,5 +1,6 @@
 -- Trees side by side, by their numbers.
-use Rattle.std.specs.Prelude.{◌≡◌, ℕ, ◌+◌, cond, List, [], ◌∷◌, ◌++◌, Some, None, Ok, Err, Option, Result, ◌==◌, nat_le, nat_lt}
+use Rattle.std.specs.Prelude.{ℕ, ◌+◌, cond, List, Option, ◌==◌, nat_le, nat_lt}
+use Rattle.std.specs.Option.{option_map}
 use Rattle.meaning.specs.Forest.{Forest, none, tree, size}
 
 module _ {H : Type 0} where
@@ -13,8 +14,6 @@ module _ {H : Type 0} where
   abbrev pub between : Forest H → ℕ → ℕ → Forest H
   between f first end = cond (nat_le end first) none (siblings_from first 1 f)
 
-  -- a call added the line of the entry that was found, and gives the number after its subtree; where none was found it added nothing
-  abbrev pub Added : {E : Type 0} → (H → List ℕ) → Option (H × ℕ) → List ℕ → Result (Option ℕ) E → List ℕ → Type 0
-  Added line at before (Ok (Some end)) after = (h : H) × (at ≡ Some (h, end)) × (after ≡ before ++ (line h ++ (10 ∷ [])))
-  Added line at before (Ok None) after = (at ≡ None) × (after ≡ before)
-  Added line at before (Err e) after = Unit {0}
+-- what is written of an entry, and the number after its subtree
+abbrev pub written : {X : Type 0} → (X → Option (List ℕ)) → Option (X × ℕ) → Option (Option (List ℕ) × ℕ)
+written text o = option_map (λ x. (text x.0, x.1)) o

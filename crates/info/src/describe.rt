@@ -1,13 +1,11 @@
 // What is printed of a file.
-ghost use Rattle.std.specs.Prelude.{◌≡◌, IfOk, Ok, Err, string_bytes};
+ghost use Rattle.std.specs.Prelude.{◌≡◌, IfOk, Ok, string_bytes};
 ghost use Rattle.meaning.specs.File.{decode};
-ghost use Rattle.fault.specs.Faults.{batch_fault_of};
 ghost use Rattle.batch.specs.Batches.{model};
 ghost use Rattle.info.specs.Lines.{report_text};
 
 use crate::listing::{Columns, Fields, put_lines};
 use batch::{Batch, Tables};
-use fault::BatchFault;
 use std::alloc::{AllocError, Global};
 
 // The rows, fields and columns of a batch file, or the line that says why it is refused.
@@ -17,7 +15,7 @@ pub fn report(heap: Global, bytes: &[u8]) -> Result<String, AllocError>
     let tables = Tables::new(heap)?;
     match Batch::read(bytes, tables) {
         Ok(batch) => report_batch(heap, &batch),
-        Err(unread) => report_refused(heap, unread.fault),
+        Err(unread) => format!(in heap; "{}\n", unread.fault),
     }
 }
 
@@ -32,11 +30,4 @@ fn report_batch(heap: Global, batch: &Batch) -> Result<String, AllocError>
     put_lines(&Fields(batch), &mut out, 1, 1, fields_end)?;
     put_lines(&Columns(batch), &mut out, 1, 1, columns_end)?;
     Ok(out)
-}
-
-// The one line of a refused file.
-fn report_refused(heap: Global, fault: BatchFault) -> Result<String, AllocError>
-    ensures { IfOk result (λ s. string_bytes s ≡ report_text (Err (batch_fault_of fault))) }
-{
-    format!(in heap; "{fault}\n")
 }

@@ -3,7 +3,6 @@
 mod describe;
 mod lines;
 mod listing;
-mod names;
 mod nulls;
 mod quoted;
 

@@ -1,32 +1,30 @@
 // Lines one after the other, in the order of the entries' numbers.
-ghost use Rattle.std.specs.Prelude.{◌≡◌, ℕ, ◌+◌, ◌≤◌, List, ◌++◌, string_bytes, OnOk};
+ghost use Rattle.std.specs.Prelude.{◌≡◌, ℕ, ◌+◌, ◌≤◌, List, ◌++◌, Some, string_bytes, OnOk};
 ghost use Rattle.meaning.specs.Forest.{Forest, find, size};
 ghost use Rattle.meaning.specs.Model as model;
 ghost use Rattle.batch.specs.Batches as batches;
 ghost use Rattle.batch.specs.Views.{numbered};
 ghost use Rattle.info.specs.Lines.{column_line, field_line, lines};
-ghost use Rattle.info.specs.Segments.{Added, between};
+ghost use Rattle.info.specs.Segments.{between, written};
 
-use crate::lines::{ColumnLine, FieldLine};
-use batch::Batch;
+use crate::lines::Line;
+use batch::{Batch, Column, Field};
 use std::alloc::AllocError;
+use std::fmt;
 
 // Numbered entries that are shown line by line.
 pub(crate) trait Listing {
+    type Line: fmt::Display + Copy;
+
     ghost Head: { Type 0 };
 
     ghost forest: { Self → Forest Head };
 
-    ghost line: { ℕ → ℕ → Head → List ℕ };
+    ghost text: { ℕ → ℕ → Head → List ℕ };
 
-    // Adds the line of entry `n`, if there is one, and gives the number that comes after its subtree.
-    fn put_line(
-        &self,
-        out: &mut String,
-        level: usize,
-        n: usize,
-    ) -> Result<Option<usize>, AllocError>
-        ensures { Added (line level n) (numbered n (find n 1 (forest self.now))) (string_bytes out.old) result (string_bytes out.new) };
+    // The line of an entry, if there is one of this number, and the number that comes after its subtree.
+    fn line(&self, level: usize, number: usize) -> Option<(Self::Line, usize)>
+        ensures { written Self.Line.output result ≡ written (λ h. Some (text level number h)) (numbered number (find number 1 (forest self.now))) };
 }
 
 // The fields of a batch.
@@ -37,61 +35,43 @@ pub(crate) struct Fields<'b, 'a>(pub(crate) &'b Batch<'a>);
 #[derive(Clone, Copy)]
 pub(crate) struct Columns<'b, 'a>(pub(crate) &'b Batch<'a>);
 
-impl Listing for Fields<'_, '_> {
+impl<'a> Listing for Fields<'_, 'a> {
+    type Line = Line<Field<'a>>;
+
     ghost Head = { model.Field };
 
     ghost forest = { λ l. (batches.model l.0.now).fields };
 
-    ghost line = { field_line };
+    ghost text = { field_line };
 
-    fn put_line(
-        &self,
-        out: &mut String,
-        level: usize,
-        n: usize,
-    ) -> Result<Option<usize>, AllocError> {
-        let Some(field) = self.0.field(n) else {
-            return Ok(None);
-        };
-        let end = field.end;
-        let line = FieldLine {
+    fn line(&self, level: usize, number: usize) -> Option<(Line<Field<'a>>, usize)> {
+        let entry = self.0.field(number)?;
+        let line = Line {
             level,
-            number: n,
-            field,
+            number,
+            entry,
         };
-        if writeln!(out, "{line}").is_err() {
-            return Err(AllocError);
-        }
-        Ok(Some(end))
+        Some((line, entry.end))
     }
 }
 
-impl Listing for Columns<'_, '_> {
+impl<'a> Listing for Columns<'_, 'a> {
+    type Line = Line<Column<'a>>;
+
     ghost Head = { model.Column };
 
     ghost forest = { λ l. (batches.model l.0.now).columns };
 
-    ghost line = { column_line };
+    ghost text = { column_line };
 
-    fn put_line(
-        &self,
-        out: &mut String,
-        level: usize,
-        n: usize,
-    ) -> Result<Option<usize>, AllocError> {
-        let Some(column) = self.0.column(n) else {
-            return Ok(None);
-        };
-        let end = column.end;
-        let line = ColumnLine {
+    fn line(&self, level: usize, number: usize) -> Option<(Line<Column<'a>>, usize)> {
+        let entry = self.0.column(number)?;
+        let line = Line {
             level,
-            number: n,
-            column,
+            number,
+            entry,
         };
-        if writeln!(out, "{line}").is_err() {
-            return Err(AllocError);
-        }
-        Ok(Some(end))
+        Some((line, entry.end))
     }
 }
 
@@ -103,14 +83,17 @@ pub(crate) fn put_lines<L: Listing>(
     first: usize,
     end: usize,
 ) -> Result<(), AllocError>
-    requires { (end ≡ first + size (between (L.Listing.forest list.now) first end)) × ((level ≤ first) × (1 ≤ first)) }
-    ensures { OnOk result (string_bytes out.new ≡ string_bytes out.old ++ lines L.Listing.line level first (between (L.Listing.forest list.now) first end)) }
+    requires whole { end ≡ first + size (between (L.Listing.forest list.now) first end) }
+    requires level { level ≤ first }
+    requires counted { 1 ≤ first }
+    ensures { OnOk result (string_bytes out.new ≡ string_bytes out.old ++ lines L.Listing.text level first (between (L.Listing.forest list.now) first end)) }
 {
     let mut n = first;
     while n < end {
-        let Some(next) = list.put_line(out, level, n)? else {
+        let Some((line, next)) = list.line(level, n) else {
             return Ok(());
         };
+        writeln!(out, "{line}")?;
         put_lines(list, out, level + 1, n + 1, next)?;
         n = next;
     }

@@ -13,21 +13,15 @@ pub(crate) fn count_nulls(column: &Column) -> usize
     let Some(validity) = column.validity else {
         return 0;
     };
-    let mut count = 0;
-    for slot in 0..column.len {
-        if !is_set(validity, slot) {
-            count += 1;
-        }
-    }
-    count
+    (0..column.len)
+        .filter(|&slot| !is_set(validity, slot))
+        .count()
 }
 
 // Bits run from bit 0 of the first byte; past the last byte none is set.
 fn is_set(bits: &[u8], index: usize) -> bool
     ensures { result ≡ bit bits.now index }
 {
-    match bits.get(index / 8) {
-        Some(byte) => *byte >> (index % 8) & 1 == 1,
-        None => false,
-    }
+    bits.get(index / 8)
+        .is_some_and(|byte| byte >> (index % 8) & 1 == 1)
 }

@@ -1,7 +1,6 @@
 // Names as text.
-ghost use Rattle.std.specs.Prelude.{◌≡◌, ◌<◌, Some};
+ghost use Rattle.std.specs.Prelude.{◌≡◌, Some};
 ghost use Rattle.std.specs.Fmt.{WritesOnOk};
-ghost use Rattle.std.specs.Char.{digit_char};
 ghost use Rattle.info.specs.Lines.{quoted, quoted_byte, printable};
 
 use std::fmt;
@@ -15,8 +14,8 @@ impl fmt::Display for Quoted<'_> {
 
     fn fmt<W: fmt::Write>(&self, f: &mut fmt::Formatter<W>) -> fmt::Result {
         f.write_char('"')?;
-        for byte in self.0 {
-            put_byte(f, *byte)?;
+        for &byte in self.0 {
+            put_byte(f, byte)?;
         }
         f.write_char('"')
     }
@@ -29,9 +28,7 @@ fn put_byte<W: fmt::Write>(f: &mut fmt::Formatter<W>, byte: u8) -> fmt::Result
     if is_printable(byte) {
         f.write_char(byte as char)
     } else {
-        let high = hex_digit(byte / 16);
-        let low = hex_digit(byte % 16);
-        write!(f, "\\x{high}{low}")
+        write!(f, "\\x{byte:02x}")
     }
 }
 
@@ -39,16 +36,5 @@ fn put_byte<W: fmt::Write>(f: &mut fmt::Formatter<W>, byte: u8) -> fmt::Result
 fn is_printable(byte: u8) -> bool
     ensures { result ≡ printable byte }
 {
-    matches!(byte, b' '..=b'~') && byte != b'"' && byte != b'\\'
-}
-
-// The character of a hex digit.
-fn hex_digit(digit: u8) -> char
-    requires { digit < 16 }
-    ensures { result ≡ digit_char digit }
-{
-    match digit {
-        0..=9 => (b'0' + digit) as char,
-        _ => (b'a' - 10 + digit) as char,
-    }
+    matches!(byte, b' '..=b'~') && !matches!(byte, b'"' | b'\\')
 }

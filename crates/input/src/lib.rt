@@ -1,53 +1,38 @@
 // Reading a whole input, up to a limit.
 #![tactic(auto)]
 
-ghost use Rattle.std.specs.Prelude.{◌≤◌, length, IfOk, vec_len};
+ghost use Rattle.std.specs.Prelude.{◌≡◌, ◌≢◌, ℕ, ◌≤◌, List, length, take, drop, Some, IfOk, OnOk, IfErr, OnErr, IfSome, vec_len};
+ghost use Rattle.std.specs.IoError.{error_kind};
+ghost use Rattle.std.specs.Io.KnownBytes.{Consumes};
 
 use std::alloc::Global;
 use std::io;
 use std::io::{ErrorKind, Read};
 
 // The bytes of `reader` up to its end, or the first `limit` of them where there are more. No byte past
-// the limit is asked for.
+// the limit is asked for. A read that a signal interrupts is tried again.
 pub fn read_at_most<R: Read>(heap: Global, reader: &mut R, limit: usize) -> io::Result<Vec<u8>>
-    ensures { IfOk result (λ v. vec_len v ≤ limit) }
+    ensures within { IfOk result (λ v. vec_len v ≤ limit) }
+    ensures bytes { IfOk result (λ v. IfSome (R.remaining reader.old) (λ xs. v.items ≡ take limit xs)) }
+    ensures rest { OnOk result (IfSome (R.remaining reader.old) (λ xs. R.remaining reader.new ≡ Some (drop limit xs))) }
+    ensures retried { IfErr result (λ e. error_kind e ≢ ErrorKind.Interrupted) }
+    ensures err { OnErr result ((lost : List ℕ) × (length lost ≤ limit) × Consumes (R.remaining reader.old) (R.remaining reader.new) lost) }
 {
     let mut bytes = Vec::new(heap);
+    let mut chunk = [0u8; 8192];
     for _ in 0..u64::MAX {
-        if !read_more(reader, &mut bytes, limit)? {
+        let room = chunk.len().min(limit - bytes.len());
+        if room == 0 {
             return Ok(bytes);
+        }
+        match reader.read(&mut chunk[..room]) {
+            Ok(0) => return Ok(bytes),
+            Ok(n) => bytes.extend_from_slice(&chunk[..n])?,
+            Err(e) if e.kind() == ErrorKind::Interrupted => {}
+            Err(e) => return Err(e),
         }
     }
     Err(io::Error::other("the input does not end"))
-}
-
-// One read onto the end of `bytes`, and whether more may come. A read that a signal interrupts adds
-// nothing.
-fn read_more<R: Read>(reader: &mut R, bytes: &mut Vec<u8>, limit: usize) -> io::Result<bool>
-    requires { vec_len bytes.old ≤ limit }
-    ensures { vec_len bytes.new ≤ limit }
-{
-    let mut chunk = [0u8; 8192];
-    let room = chunk.len().min(limit - bytes.len());
-    if room == 0 {
-        return Ok(false);
-    }
-    match read_part(reader, &mut chunk, room) {
-        Ok(n) => {
-            bytes.extend_from_slice(&chunk[0..n])?;
-            Ok(n > 0)
-        }
-        Err(e) if e.kind() == ErrorKind::Interrupted => Ok(true),
-        Err(e) => Err(e),
-    }
-}
-
-// One read of at most `room` bytes, to the start of `chunk`: how many there were.
-fn read_part<R: Read>(reader: &mut R, chunk: &mut [u8], room: usize) -> io::Result<usize>
-    requires { room ≤ length chunk.old }
-    ensures { IfOk result (λ n. n ≤ room) }
-{
-    reader.read(&mut chunk[0..room])
 }
 
 #[cfg(test)]
@@ -80,6 +65,37 @@ mod tests {
         let bytes = read_at_most(rt.alloc(), &mut source, 19999)?;
         assert!(rt; bytes.len() == 19999);
         assert!(rt; source.len() == 1);
+        Ok(())
+    }
+
+    // Each byte comes by itself, after a read that a signal interrupts.
+    #[derive(Drop)]
+    struct Interrupted<'a> {
+        rest: &'a [u8],
+        is_next: bool,
+    }
+
+    impl Read for Interrupted<'_> {
+        fn read(&mut self, buf: &mut [u8]) -> io::Result<usize> {
+            self.is_next = !self.is_next;
+            if self.is_next {
+                return Err(io::Error::from(ErrorKind::Interrupted));
+            }
+            let room = buf.len().min(1);
+            self.rest.read(&mut buf[..room])
+        }
+    }
+
+    #[test]
+    fn reads_on_after_an_interruption(rt: HostRuntime) -> Result<(), Fail> {
+        let rest: &[u8] = b"star";
+        let mut source = Interrupted {
+            rest,
+            is_next: false,
+        };
+        let bytes = read_at_most(rt.alloc(), &mut source, 3)?;
+        assert!(rt; bytes.as_slice() == b"sta".as_slice());
+        assert!(rt; source.rest == b"r".as_slice());
         Ok(())
     }
 }

@@ -4,9 +4,9 @@ use Rattle.meaning.specs.Forest.{Forest, none, tree, size, beside}
 use Rattle.meaning.specs.Items.{BatchFault as Fault, Rest, Read, carry, give}
 use Rattle.fault.specs.declared.faults.BatchFault.{BatchFault}
 use Rattle.fault.specs.Faults.{batch_fault_of}
-use Rattle.items.specs.declared.reader.Reader.{Reader}
 use Rattle.items.specs.Reading.{file, rest}
-use Rattle.items.specs.Tables.{Layout, Stands, Filled, Fills}
+use Rattle.items.specs.declared.entries.EntryReader.{EntryReader}
+use Rattle.items.specs.Tables.{Layout, Stands, Filled, Enters}
 
 module _ {H : Type 0} where
   pub beside_none : (f : Forest H) → beside f none ≡ f
@@ -96,7 +96,8 @@ module _ {E H : Type 0} (l : Layout E H) where
 
   -- a refusal, as the exit of a `?` gives it
   pub refuses :
-      {X Y : Type 0} {number : X → ℕ} {value : X → Forest H → Y} {read : Read Y} {n : ℕ} {before after : Reader} {old new : List E} {res : Result X BatchFault} (x e : BatchFault)
-      → file after ≡ file before → res ≡ Err x → x ≡ e → Err (batch_fault_of e) ≡ read (rest before) → Fills l number value read n before old res after new
-  refuses {number = number} {value = value} {read = read} {n = n} {before = before} {after = after} {old = old} {new = new} x e same q w does =
-      subst (λ r. Fills l number value read n before old r after new) (sym (q ∙ ap Err w)) (record { same = same; does = does })
+      {X Y : Type 0} {value : X → Forest H → Y} {read : Read Y} {n : ℕ} {before after : EntryReader E} {res : Result X BatchFault} (x e : BatchFault)
+      → after.reader.ghost_name ≡ before.reader.ghost_name → after.table.ghost_name ≡ before.table.ghost_name → file after.reader.now ≡ file before.reader.now → res ≡ Err x → x ≡ e
+      → Err (batch_fault_of e) ≡ read (rest before.reader.now) → Enters l value read n before res after
+  refuses {value = value} {read = read} {n = n} {before = before} {after = after} x e reader table same q w does =
+      subst (λ r. Enters l value read n before r after) (sym (q ∙ ap Err w)) (record { reader = reader; table = table; fills = record { same = same; does = does } })

@@ -46,7 +46,7 @@ module _ (bytes : List ℕ) (k v b : ℕ) (few : k < 5) (there : k < length byte
   -- a byte that is not the last
   pub goes_on :
       (x : ℕ) → x ≡ b - 128 → 128 ≤ b → b < 256 → v < 2 ^ (7 * k) → groups (5 - k) k v (drop k bytes) ≡ numeral bytes
-      → (k + 1 ≤ length bytes) × (v + (x * 2 ^ (7 * k)) % 2 ^ 32 < 2 ^ (7 * (k + 1)))
+      → (k + 1 < 5) × (v + (x * 2 ^ (7 * k)) % 2 ^ 32 < 2 ^ (7 * (k + 1)))
       × (groups (5 - (k + 1)) (k + 1) (v + (x * 2 ^ (7 * k)) % 2 ^ 32) (drop (k + 1) bytes) ≡ numeral bytes)
   unfolding step
   goes_on x e high byte small inv =
@@ -54,7 +54,10 @@ module _ (bytes : List ℕ) (k v b : ℕ) (few : k < 5) (there : k < length byte
       let more : Number = next (v + (b - 128) * 2 ^ (7 * k)) in
       let h : step k v b more ≡ more = grind (arith, nat_tests) in
       let s : (x * 2 ^ (7 * k)) % 2 ^ 32 ≡ (b - 128) * 2 ^ (7 * k) = rw e (shifted (b - 128) (omega arith) (omega arith)) in (
-        omega arith,
+        elim (eqb_tells k 4) [
+          | inl t ↦ let low = short t.1 in absurd (omega arith)
+          | inr f ↦ let ne : k ≢ 4 = f.1 in omega arith
+        ],
         rw s (omega (arith, pow-add 2 7 (7 * k), mul_top (b - 128) (2 ^ (7 * k)) (omega arith), ap (λ n. 2 ^ n) (times k))),
         ap (λ n. next (v + n)) s ∙ sym h ∙ sym opened ∙ inv,
       )

@@ -1,11 +1,11 @@
 -- A field's id: the four bytes as the code puts them together.
-use Rattle.std.proofs.Common.{◌≡◌, ℕ, suc, ◌+◌, ◌-◌, ◌*◌, ◌≤◌, Bool, true, false, cond, ltb, List, length, get_or, take, drop, ℤ, pos, negsuc, Ok, sym, refl, ap, ◌∙◌, inl, inr, arith, w32, to_z}
+use Rattle.std.proofs.Common.{◌≡◌, ℕ, suc, ◌+◌, ◌-◌, ◌*◌, ◌≤◌, Bool, true, false, cond, ltb, List, [], ◌∷◌, length, get_or, take, drop, ℤ, pos, negsuc, Ok, sym, refl, ap, ◌∙◌, arith, w32, to_z}
 use mir.Val.{sel}
-use Rattle.std.proofs.lemmas.Bool.Decides.{leb_tells}
-use Rattle.meaning.specs.Items.{Entry, Rest, carry, give, exactly, little, signed}
+use Rattle.std.specs.Array.{IsFirstChunk}
+use Rattle.std.proofs.lemmas.List.{length-drop, length-take-le, take_rest}
+use Rattle.meaning.specs.Items.{Entry, carry, give, little, signed}
 use Rattle.items.specs.Reading.{id_from}
-use Rattle.items.proofs.Words.{four}
-use Rattle.items.proofs.Taken.{from, exactly-cut, exactly_there}
+use Rattle.items.proofs.Taken.{from, exactly_there}
 
 chosen : (b : Bool) (x y : ℤ) → sel b x y ≡ cond b x y
 chosen true x y = refl
@@ -17,23 +17,22 @@ signed_is n =
     let m : 4294967296 - suc n ≡ 4294967296 - n - 1 = omega arith in
     chosen (ltb n 2147483648) (pos n) (negsuc (4294967296 - suc n)) ∙ ap (λ k. cond (ltb n 2147483648) (pos n) (negsuc k)) m
 
--- what was read was there
-pub exactly-fits : (bs : List ℕ) (at n : ℕ) (e : Entry) (x : List ℕ) (q : Rest) → Ok (x, q) ≡ exactly e n (from bs at) → n ≤ length bs - at
-exactly-fits bs at n e x q does =
-    elim (leb_tells n (length bs - at)) [
-      | inl t ↦ t.1
-      | inr f ↦ let no_Ok = does ∙ sym (exactly-cut bs at n e f.1) in let z : ◌≡◌ {A = ℕ} 0 1 = cc in omega arith
-    ]
+-- four bytes as one number
+four : (ys : List ℕ) → length ys ≡ 4 → little ys ≡ get_or ys 0 0 + get_or ys 1 0 * 256 + get_or ys 2 0 * 65536 + get_or ys 3 0 * 16777216
+four [] h = absurd (omega arith)
+four (a ∷ []) h = absurd (omega arith)
+four (a ∷ b ∷ []) h = absurd (omega arith)
+four (a ∷ b ∷ c ∷ []) h = absurd (omega arith)
+four (a ∷ b ∷ c ∷ d ∷ []) h = omega arith
+four (a ∷ b ∷ c ∷ d ∷ e ∷ ys) h = absurd (omega arith)
 
 pub id-there :
-    (bs bs' : List ℕ) (at : ℕ) (e : Entry) (x : List ℕ) (q : Rest) (z : ℤ) → bs' ≡ bs → Ok (x, q) ≡ exactly e 4 (from bs at)
-    → z ≡ to_z w32 (get_or bs' at 0 + get_or bs' (at + 1) 0 * 256 + get_or bs' (at + 2) 0 * 65536 + get_or bs' (at + 3) 0 * 16777216) → Ok (z, q) ≡ id_from e (from bs at)
-id-there bs bs' at e x q z same does is =
-    let fits = exactly-fits bs at 4 e x q does in
-    let there = exactly_there bs at 4 e fits in
-    let p = does ∙ sym there in
-    let pair : ◌≡◌ {A = List ℕ × Rest} (x, q) (take 4 (drop at bs), from bs (at + 4)) = cc in
-    let k : x ≡ take 4 (drop at bs) = ap (λ y. y.0) pair in
-    let v = ap (λ b. to_z w32 (get_or b at 0 + get_or b (at + 1) 0 * 256 + get_or b (at + 2) 0 * 65536 + get_or b (at + 3) 0 * 16777216)) same in
-    let w : z ≡ signed 4 (little x) = is ∙ v ∙ ap (λ n. to_z w32 n) (sym (four bs at (omega arith))) ∙ signed_is (little (take 4 (drop at bs))) ∙ ap (λ y. signed 4 (little y)) (sym k) in
-    ap (λ y. Ok (y, q)) w ∙ ap (carry (λ bs. give (signed 4 (little bs)))) does
+    (bs ys : List ℕ) (at : ℕ) (e : Entry) (z : ℤ) → IsFirstChunk (take (length bs - at) (drop at bs)) ys 4
+    → z ≡ to_z w32 (get_or ys 0 0 + get_or ys 1 0 * 256 + get_or ys 2 0 * 65536 + get_or ys 3 0 * 16777216) → Ok (z, from bs (at + 4)) ≡ id_from e (from bs at)
+id-there bs ys at e z h is =
+    let left = take_rest bs at in
+    let fits : 4 ≤ length bs - at = omega (arith, h.enough, ap length left, length-drop at bs) in
+    let k : ys ≡ take 4 (drop at bs) = h.same ∙ ap (take 4) left in
+    let n : length ys ≡ 4 = ap length k ∙ length-take-le 4 (drop at bs) (omega (arith, length-drop at bs)) in
+    let w : z ≡ signed 4 (little ys) = is ∙ ap (λ n. to_z w32 n) (sym (four ys n)) ∙ signed_is (little ys) in
+    ap (λ y. Ok (y, from bs (at + 4))) (w ∙ ap (λ y. signed 4 (little y)) k) ∙ ap (carry (λ bs. give (signed 4 (little bs)))) (exactly_there bs at 4 e fits)

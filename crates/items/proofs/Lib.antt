@@ -1,10 +1,8 @@
 pub mod Groups
 pub mod Taken
-pub mod Words
 pub mod Ids
 pub mod Placing
 pub mod Seeking
 pub mod Filling
-pub mod Blanking
 pub mod Siblings
 pub mod Finding

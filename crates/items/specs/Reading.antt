@@ -1,5 +1,5 @@
 -- A reader of the code is a rest of the definitions.
-use Rattle.std.specs.Prelude.{◌≡◌, ℕ, ◌+◌, ◌≤◌, List, length, take, drop, ℤ, Ok, Err, Result}
+use Rattle.std.specs.Prelude.{◌≡◌, ℕ, ◌+◌, ◌≤◌, List, length, take, drop, ℤ, Ok, Err, Result, IfOk, OnErr}
 use Rattle.meaning.specs.Items as items
 use Rattle.meaning.specs.Items.{Rest, Read, ◌then◌}
 use Rattle.fault.specs.Faults.{batch_fault_of}
@@ -32,6 +32,18 @@ said means (Err e) r = Err (batch_fault_of e)
 pub record Reads {X Y : Type 0} (means : X → Y) (read : Read Y) (before : Reader) (result : Result X BatchFault) (after : Reader) : Type 0 where
   pub same : file after ≡ file before
   pub does : said means result after ≡ read (rest before)
+
+-- a call reads an item; where it is refused, the reader stays where it was
+pub record Takes {X Y : Type 0} (means : X → Y) (read : Read Y) (before : Reader) (result : Result X BatchFault) (after : Reader) : Type 0 where
+  pub reads : Reads means read before result after
+  pub stays : OnErr result (after.at ≡ before.at)
+
+-- the same of an item that is a part of the file, and ends where the reader then is
+pub record TakesPart (read : Read (List ℕ)) (before : Reader) (result : Result Span BatchFault) (after : Reader) : Type 0 where
+  pub reads : Reads (part (file before)) read before result after
+  pub inside : IfOk result (Inside (file before))
+  pub ends : IfOk result (λ s. s.start + s.len ≡ after.at)
+  pub stays : OnErr result (after.at ≡ before.at)
 
 -- a field's id: four bytes, signed
 abbrev pub id_from : items.Entry → Read ℤ

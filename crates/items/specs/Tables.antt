@@ -7,6 +7,7 @@ use Rattle.fault.specs.declared.faults.BatchFault.{BatchFault}
 use Rattle.fault.specs.Faults.{batch_fault_of}
 use Rattle.items.specs.declared.reader.Reader.{Reader}
 use Rattle.items.specs.Reading.{file, rest}
+use Rattle.items.specs.declared.entries.EntryReader.{EntryReader}
 
 -- a kind of table: its blank entry, that an entry names parts of a file that are there, what it says of the file, and the number after its subtree
 pub record Layout (E H : Type 0) : Type 1 where
@@ -43,3 +44,9 @@ module _ {E H : Type 0} (l : Layout E H) where
   pub record Fills {X Y : Type 0} (number : X → ℕ) (value : X → Forest H → Y) (read : Read Y) (n : ℕ) (before : Reader) (old : List E) (result : Result X BatchFault) (after : Reader) (new : List E) : Type 0 where
     pub same : file after ≡ file before
     pub does : Answers number value (read (rest before)) n (file before) old new after result
+
+  -- a call reads what the definition reads, from the number of the next entry on; the reader and the table are still the same ones
+  pub record Enters {X Y : Type 0} (value : X → Forest H → Y) (read : Read Y) (n : ℕ) (old : EntryReader E) (result : Result X BatchFault) (new : EntryReader E) : Type 0 where
+    pub reader : new.reader.ghost_name ≡ old.reader.ghost_name
+    pub table : new.table.ghost_name ≡ old.table.ghost_name
+    pub fills : Fills (λ _. new.next) value read n old.reader.now old.table.now result new.reader.now new.table.now

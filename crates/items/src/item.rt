@@ -1,10 +1,9 @@
-ghost use Rattle.std.specs.Prelude.{◌≡◌, ℕ, ◌+◌, Bool, true, ℤ, IfOk, OnErr};
+ghost use Rattle.std.specs.Prelude.{◌≡◌, ℕ, Bool, true, ℤ};
 ghost use Rattle.meaning.specs.Items as items;
 ghost use Rattle.fault.specs.Faults.{entry_of};
-ghost use Rattle.items.specs.declared.reader.Span.{Span as Spa};
-ghost use Rattle.items.specs.Reading.{Inside, Reads, file, id_from, part, rest};
+ghost use Rattle.items.specs.Reading.{Takes, TakesPart, file, id_from, rest};
 
-use crate::numeral::{Number, number_at};
+use crate::numeral::number_at;
 use crate::reader::{Reader, Span};
 use fault::{BatchFault, Entry, Refusal};
 
@@ -20,10 +19,7 @@ impl<'a> Reader<'a> {
 impl Reader<'_> {
     // The next `n` bytes as one item. Here and below, a reader that refuses an item stays where it was.
     pub fn exactly(&mut self, n: usize, entry: Entry) -> Result<Span, BatchFault>
-        ensures reads { Reads (part (file self.old)) (items.exactly (entry_of entry) n) self.old result self.new }
-        ensures inside { IfOk result (Inside (file self.old)) }
-        ensures ends { IfOk result (λ (s : Spa). s.start + s.len ≡ self.new.at) }
-        ensures stays { OnErr result (self.new.at ≡ self.old.at) }
+        ensures { TakesPart (items.exactly (entry_of entry) n) self.old result self.new }
     {
         let start = self.at;
         if self.bytes.len() - start < n {
@@ -35,21 +31,18 @@ impl Reader<'_> {
 
     // The next byte, whatever it is.
     pub fn byte(&mut self, entry: Entry) -> Result<u8, BatchFault>
-        ensures reads { Reads (λ (b : ℕ). b) (items.byte (entry_of entry) (λ _. true)) self.old result self.new }
-        ensures stays { OnErr result (self.new.at ≡ self.old.at) }
+        ensures { Takes (λ (b : ℕ). b) (items.byte (entry_of entry) (λ _. true)) self.old result self.new }
     {
-        let start = self.at;
-        if start == self.bytes.len() {
-            return Err(BatchFault::new(Refusal::Cut, start, entry));
-        }
-        self.at = start + 1;
-        Ok(self.bytes[start])
+        let Some(b) = self.bytes.get(self.at) else {
+            return Err(BatchFault::new(Refusal::Cut, self.at, entry));
+        };
+        self.at += 1;
+        Ok(*b)
     }
 
     // A byte that is 0 or 1.
     pub fn flag(&mut self, entry: Entry) -> Result<bool, BatchFault>
-        ensures reads { Reads (λ (b : Bool). b) (items.flag (entry_of entry)) self.old result self.new }
-        ensures stays { OnErr result (self.new.at ≡ self.old.at) }
+        ensures { Takes (λ (b : Bool). b) (items.flag (entry_of entry)) self.old result self.new }
     {
         let start = self.at;
         let b = self.byte(entry)?;
@@ -62,24 +55,21 @@ impl Reader<'_> {
 
     // A number, in groups of seven bits.
     pub fn number(&mut self, entry: Entry) -> Result<u32, BatchFault>
-        ensures reads { Reads (λ (v : ℕ). v) (items.number (entry_of entry)) self.old result self.new }
-        ensures stays { OnErr result (self.new.at ≡ self.old.at) }
+        ensures { Takes (λ (v : ℕ). v) (items.number (entry_of entry)) self.old result self.new }
     {
         let start = self.at;
         match number_at(&self.bytes[start..]) {
-            Number::Value(value, len) => {
+            Ok((value, len)) => {
                 self.at = start + len;
                 Ok(value)
             }
-            Number::Cut => Err(BatchFault::new(Refusal::Cut, start, entry)),
-            Number::Long => Err(BatchFault::new(Refusal::LongNumber, start, entry)),
+            Err(why) => Err(BatchFault::new(why.into(), start, entry)),
         }
     }
 
     // A number that may not pass a limit.
     pub fn limited(&mut self, most: u32, entry: Entry) -> Result<u32, BatchFault>
-        ensures reads { Reads (λ (v : ℕ). v) (items.limited (entry_of entry) most) self.old result self.new }
-        ensures stays { OnErr result (self.new.at ≡ self.old.at) }
+        ensures { Takes (λ (v : ℕ). v) (items.limited (entry_of entry) most) self.old result self.new }
     {
         let start = self.at;
         let v = self.number(entry)?;
@@ -92,10 +82,7 @@ impl Reader<'_> {
 
     // A name or an id text: its number and its bytes are one item, so that a fault of either begins at the number.
     pub fn text(&mut self, entry: Entry) -> Result<Span, BatchFault>
-        ensures reads { Reads (part (file self.old)) (items.text (entry_of entry)) self.old result self.new }
-        ensures inside { IfOk result (Inside (file self.old)) }
-        ensures ends { IfOk result (λ (s : Spa). s.start + s.len ≡ self.new.at) }
-        ensures stays { OnErr result (self.new.at ≡ self.old.at) }
+        ensures { TakesPart (items.text (entry_of entry)) self.old result self.new }
     {
         let start = self.at;
         let len = self.number(entry)? as usize;
@@ -114,12 +101,12 @@ impl Reader<'_> {
 
     // A field's id: four bytes, signed.
     pub fn id(&mut self, entry: Entry) -> Result<i32, BatchFault>
-        ensures reads { Reads (λ (z : ℤ). z) (id_from (entry_of entry)) self.old result self.new }
-        ensures stays { OnErr result (self.new.at ≡ self.old.at) }
+        ensures { Takes (λ (z : ℤ). z) (id_from (entry_of entry)) self.old result self.new }
     {
-        let start = self.at;
-        let _ = self.exactly(4, entry)?;
-        let b = self.bytes;
-        Ok(i32::from_le_bytes([b[start], b[start + 1], b[start + 2], b[start + 3]]))
+        let Some(bytes) = self.bytes[self.at..].first_chunk::<4>() else {
+            return Err(BatchFault::new(Refusal::Cut, self.at, entry));
+        };
+        self.at += 4;
+        Ok(i32::from_le_bytes(*bytes))
     }
 }

@@ -7,7 +7,7 @@ ghost use Rattle.items.specs.Reading.{Reads, file};
 ghost use Rattle.items.specs.Widths.{wide};
 
 use crate::reader::{Offsets, Reader};
-use crate::width::{Width, word_at};
+use crate::width::Width;
 use fault::{BatchFault, Entry, Refusal};
 
 impl Reader<'_> {
@@ -16,8 +16,8 @@ impl Reader<'_> {
         ensures { Reads (λ (v : ℕ). v) (offset_after (entry_of entry) (wide width) last) self.old result self.new }
     {
         let start = self.at;
-        let _ = self.exactly(width.bytes(), entry)?;
-        let value = word_at(self.bytes, start, width);
+        self.exactly(width.bytes(), entry)?;
+        let value = width.word(&self.bytes[start..self.at]);
         if value >= width.negative() || value < last {
             return Err(BatchFault::new(Refusal::Offset, start, entry));
         }
@@ -53,18 +53,18 @@ impl Reader<'_> {
     pub fn first_past(&self, offsets: Offsets, limit: u64) -> Option<usize>
         ensures { result ≡ (if nat_le (offsets.start + wide offsets.width * offsets.count) (length (file self.now)) then columns.past (offsets_of (file self.now) offsets) limit else None) }
     {
-        let width = offsets.width.bytes();
-        let len = self.bytes.len();
-        if offsets.start > len || (len - offsets.start) / width < offsets.count {
-            return None;
-        }
-        let mut at = offsets.start;
-        for _ in 0..offsets.count {
-            if word_at(self.bytes, at, offsets.width) > limit {
-                return Some(at);
-            }
-            at += width;
-        }
-        None
+        let Offsets {
+            width,
+            count,
+            start,
+        } = offsets;
+        let size = width.bytes();
+        let end = size.checked_mul(count)?.checked_add(start)?;
+        let past = self
+            .bytes
+            .get(start..end)?
+            .chunks_exact(size)
+            .position(|word| width.word(word) > limit)?;
+        Some(start + size * past)
     }
 }

@@ -1,4 +1,4 @@
-ghost use Rattle.std.specs.Prelude.{◌≡◌, ℕ, ◌+◌, ◌-◌, ◌*◌, ◌^◌, ◌≤◌, length, take, drop};
+ghost use Rattle.std.specs.Prelude.{◌≡◌, ◌-◌, ◌*◌, ◌^◌, length};
 ghost use Rattle.meaning.specs.Items.{little};
 ghost use Rattle.items.specs.Widths.{wide};
 
@@ -23,29 +23,17 @@ impl Width {
     pub(crate) fn negative(self) -> u64
         ensures { result ≡ 2 ^ (8 * wide self - 1) }
     {
-        match self {
-            Width::Four => 0x8000_0000,
-            Width::Eight => 0x8000_0000_0000_0000,
-        }
+        1 << (8 * self.bytes() - 1)
     }
-}
 
-// The number that stands at a byte, low byte first.
-pub(crate) fn word_at(b: &[u8], at: usize, width: Width) -> u64
-    requires { at + wide width ≤ length b.now }
-    ensures { result ≡ little (take (wide width) (drop at b.now)) }
-{
-    match width {
-        Width::Four => u64::from(u32::from_le_bytes([b[at], b[at + 1], b[at + 2], b[at + 3]])),
-        Width::Eight => u64::from_le_bytes([
-            b[at],
-            b[at + 1],
-            b[at + 2],
-            b[at + 3],
-            b[at + 4],
-            b[at + 5],
-            b[at + 6],
-            b[at + 7],
-        ]),
+    // The number that so many bytes are, low byte first.
+    pub(crate) fn word(self, bytes: &[u8]) -> u64
+        requires { length bytes.now ≡ wide self }
+        ensures { result ≡ little bytes.now }
+    {
+        match self {
+            Width::Four => u64::from(u32::from_le_bytes(*bytes.as_array().unwrap())),
+            Width::Eight => u64::from_le_bytes(*bytes.as_array().unwrap()),
+        }
     }
 }

@@ -1,1 +1,1 @@
-mod Labelled
+mod Pairs

@@ -1,29 +1,25 @@
 // Bytes that are written as hex digits, two to a byte.
-ghost use Rattle.std.specs.Prelude.{◌≡◌, ℕ, ◌*◌, length, IfOk, vec_len, MatchResult};
-ghost use Rattle.readcases.specs.Hex.{IsDigit, IsByte};
+ghost use Rattle.std.specs.Prelude.{ℕ, [], ◌∷◌, IfOk, MatchResult};
+ghost use Rattle.readcases.specs.Hex.{IsDigit, IsHex};
 
 use crate::case_fault::CaseFault;
 use std::alloc::Global;
 
 // The bytes of a hex string.
 pub fn bytes_of(heap: Global, hex: &str) -> Result<Vec<u8>, CaseFault>
-    ensures { IfOk result (λ v. 2 * vec_len v ≡ length hex.now) }
+    ensures { IfOk result (λ v. IsHex hex.now v.items) }
 {
-    let mut bytes = Vec::new(heap);
-    for pair in hex.as_bytes().chunks(2) {
-        let [high, low] = pair else {
-            return Err(CaseFault::HalfByte);
-        };
-        bytes.push(byte(*high, *low)?)?;
-    }
-    Ok(bytes)
+    hex.as_bytes().chunks(2).map(byte).try_collect(heap)
 }
 
 // The byte of two hex digits, the higher first.
-fn byte(high: u8, low: u8) -> Result<u8, CaseFault>
-    ensures { IfOk result (λ b. IsByte high low b) }
+fn byte(pair: &[u8]) -> Result<u8, CaseFault>
+    ensures { IfOk result (λ b. IsHex pair.now (b ∷ [])) }
 {
-    Ok(16 * digit(high)? + digit(low)?)
+    let [high, low] = pair else {
+        return Err(CaseFault::HalfByte);
+    };
+    Ok(16 * digit(*high)? + digit(*low)?)
 }
 
 // The value of a hex digit. Anything else is refused.

@@ -6,6 +6,7 @@
 
 mod case;
 mod case_fault;
+mod file;
 mod hex;
 mod part;
 
@@ -15,11 +16,6 @@ use case::Case;
 const TABLE_MOST: usize = 1_048_576;
 
 fn main(rt: HostRuntime) -> anyhow::Result<()> {
-    run(&rt)
-}
-
-// Prints a case after the other.
-fn run(rt: &HostRuntime) -> anyhow::Result<()> {
     let heap = rt.alloc();
     let bytes = input::read_at_most(heap, &mut rt.stdin(), TABLE_MOST)?;
     let table = std::str::from_utf8(bytes.as_slice())?;

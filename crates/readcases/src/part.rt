@@ -1,12 +1,13 @@
 // A part of a file: some bytes, and how many times they stand there.
-ghost use Rattle.std.specs.Prelude.{◌≡◌, ◌+◌, ◌*◌, ◌≤◌, vec_len, OnOk};
+ghost use Rattle.std.specs.Prelude.{◌≡◌, ◌++◌, IfOk, OnOk};
+ghost use Rattle.std.specs.List.{before_first, repeat};
+ghost use Rattle.readcases.specs.Hex.{IsHex};
+ghost use Rattle.readcases.specs.Parts.{is_star, part_count};
 
 use crate::case_fault::CaseFault;
+use crate::file::File;
 use crate::hex;
 use std::alloc::Global;
-
-// One byte more than a batch file may have, so that a file which is too long can be a case.
-const MOST: usize = 1_048_577;
 
 #[derive(Drop)]
 pub struct Part {
@@ -16,29 +17,22 @@ pub struct Part {
 
 impl Part {
     // A part as the table has it: `HEX`, or `HEX*COUNT`.
-    pub fn parse(heap: Global, text: &str) -> Result<Part, CaseFault> {
-        let Some((digits, count)) = text.split_once('*') else {
-            let unit = hex::bytes_of(heap, text)?;
-            return Ok(Part { unit, count: 1 });
-        };
+    pub fn parse(heap: Global, text: &str) -> Result<Part, CaseFault>
+        ensures unit { IfOk result (λ p. IsHex (before_first is_star text.now) p.unit.items) }
+        ensures count { IfOk result (λ p. p.count ≡ part_count text.now) }
+    {
+        let (digits, count) = text.split_once('*').unwrap_or((text, "1"));
         let unit = hex::bytes_of(heap, digits)?;
-        match count.parse::<usize>() {
-            Ok(count) => Ok(Part { unit, count }),
-            Err(_) => Err(CaseFault::Count),
-        }
+        let count = count.parse()?;
+        Ok(Part { unit, count })
     }
 
-    // Adds the bytes of the part to a file, which stays within the limit of a case.
-    pub(crate) fn put(&self, file: &mut Vec<u8>) -> Result<(), CaseFault>
-        requires { vec_len file.old ≤ 1048577 }
-        ensures bound { vec_len file.new ≤ 1048577 }
-        ensures len { OnOk result (vec_len file.new ≡ vec_len file.old + self.now.count * vec_len self.now.unit) }
+    // Adds the bytes of the part to a file.
+    pub fn put(&self, file: &mut File) -> Result<(), CaseFault>
+        ensures { OnOk result (file.new.bytes.items ≡ file.old.bytes.items ++ repeat self.now.count self.now.unit.items) }
     {
         for _n in 0..self.count {
-            if self.unit.len() > MOST - file.len() {
-                return Err(CaseFault::TooLong);
-            }
-            file.extend_from_slice(self.unit.as_slice())?;
+            file.append(self.unit.as_slice())?;
         }
         Ok(())
     }

@@ -1,5 +1,5 @@
 -- A field and its type, against the definitions `fielded` and `typed`.
-use Rattle.std.proofs.Common.{◌≡◌, ℕ, ◌+◌, ◌-◌, ◌≤◌, Bool, true, false, cond, ◌&&◌, ◌||◌, eqb, leb, List, length, set, ℤ, Some, Ok, Result, sym, refl, ap, ◌∙◌, subst}
+use Rattle.std.proofs.Common.{◌≡◌, ℕ, ◌+◌, ◌-◌, ◌≤◌, Bool, true, false, cond, ◌&&◌, ◌||◌, eqb, leb, List, length, set, ℤ, Ok, Result, sym, refl, ap, ◌∙◌, subst}
 use Rattle.meaning.specs.Forest.{Forest, none, tree}
 use Rattle.meaning.specs.Model as model
 use Rattle.meaning.specs.Items.{field, BatchFault as Fault, Rest, Read, refused, carry, give, exactly, byte, flag, text, little, signed}
@@ -7,11 +7,10 @@ use Rattle.meaning.specs.Schema.{fields, Fields, Type', Kind, kind_of, nested, t
 use Rattle.schema.specs.declared.code.Form.{Form}
 use Rattle.items.specs.declared.reader.Reader.{Reader}
 use Rattle.items.specs.declared.reader.Span.{Span}
-use Rattle.schema.specs.declared.types.FieldEntry.{FieldEntry}
 use Rattle.schema.specs.declared.types.Kind.{Kind as Kind'}
 use Rattle.schema.specs.Forms.{shape_of, formed, decimal?, Formed}
 use Rattle.items.specs.Reading.{Inside, file, rest, part, id_from}
-use Rattle.schema.specs.Fields.{field_of, field_table, one_field}
+use Rattle.schema.specs.Fields.{FieldEntry, field_of, field_table, one_field}
 use Rattle.items.specs.Tables.{Filled, Fills}
 use Rattle.items.proofs.Filling.{filled-tree}
 use Rattle.items.proofs.Taken.{if_false, listed-byte, then_then}
@@ -62,7 +61,7 @@ module _ (kids : Fields) (key : Bool) (n : ℕ) where
 
 -- the same by the form that the code takes the code byte for
 pub by_form :
-    (kids : Fields) (key : Bool) (n c : ℕ) (form k : Form) (r r1 : Rest) → Formed c (Some form) → form ≡ k → decimal? k ≡ false → nested (formed k) ≡ false
+    (kids : Fields) (key : Bool) (n c : ℕ) (form k : Form) (r r1 : Rest) → Formed c (Ok form) → form ≡ k → decimal? k ≡ false → nested (formed k) ≡ false
     → Ok (c, r1) ≡ byte (field n) (λ _. true) r → type_by kids n (formed k) r1 ≡ typed kids key n r
 by_form kids key n c form k r r1 f is six flat e =
     simple kids key n c (formed k) r r1 e f.0 (f.1 ∙ ap (λ k. formed k) is) (f.2 ∙ ap (λ k. decimal? k) is ∙ six) flat
@@ -73,7 +72,7 @@ pub field-read :
     → id' ≡ id → file r1 ≡ file before → file r2 ≡ file r1 → file r3 ≡ file r2 → file after ≡ file r3 → Ok (id, rest r1) ≡ id_from (field n) (rest before)
     → Ok (required, rest r2) ≡ flag (field n) (rest r1) → Ok (part (file r2) name, rest r3) ≡ text (field n) (rest r2) → Inside (file r2) name
     → Ok ((shape_of kind, below), rest after) ≡ typed (fields level) key n (rest r3) → Filled field_table (file r3) old mid (n + 1) end below → 1 ≤ n → n ≤ length mid
-    → Fills field_table (λ (m : ℕ). m) (λ _ (fs : Forest model.Field). fs) (one_field (fields level) key n) n before old (Ok end) after
+    → Fills field_table (λ _. end) (λ _ (fs : Forest model.Field). fs) (one_field (fields level) key n) n before old (Ok (tt {0})) after
     (set mid (n - 1) (record { id = id'; required = required; name = name; kind = kind; end = end }))
 field-read level key n before r1 r2 r3 after id id' required name kind end old mid below z s1 s2 s3 s4 e1 e2 e3 inside e4 fill pos fits =
     let entry : FieldEntry = record { id = id'; required = required; name = name; kind = kind; end = end } in

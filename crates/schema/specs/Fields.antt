@@ -6,10 +6,15 @@ use Rattle.meaning.specs.Items.{head, Read, refused, ◌then◌, give, number}
 use Rattle.meaning.specs.Schema.{Fields, fielded, fields}
 use Rattle.items.specs.Reading.{Inside, part}
 use Rattle.items.specs.Tables.{Layout}
-use Rattle.schema.specs.declared.types.FieldEntry.{FieldEntry}
+use Rattle.items.specs.declared.reader.Span.{Span}
+use Rattle.schema.specs.declared.types.Field.{Field}
 use Rattle.schema.specs.declared.types.Kind.TheVariants as kind
 use Rattle.schema.specs.declared.types.Primitive.TheVariants.{Boolean}
 use Rattle.schema.specs.Forms.{shape_of}
+
+-- an entry of the table: a field whose name is where it lies in the file
+abbrev pub FieldEntry : Type 0
+FieldEntry = Field Span
 
 -- the blank entry: all zero
 abbrev pub blank : FieldEntry

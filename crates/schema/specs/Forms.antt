@@ -1,5 +1,5 @@
 -- What the code's types of the schema say in the words of the definitions.
-use Rattle.std.specs.Prelude.{◌≡◌, ℕ, Bool, true, false, ◌&&◌, Some, None, Option, ◌==◌, nat_le}
+use Rattle.std.specs.Prelude.{◌≡◌, ℕ, Bool, true, false, ◌&&◌, Ok, Err, Result, ◌==◌, nat_le}
 use Rattle.meaning.specs.Model as model
 use Rattle.meaning.specs.Schema as schema
 use Rattle.schema.specs.declared.types.Primitive.{Primitive}
@@ -7,6 +7,7 @@ use Rattle.schema.specs.declared.types.Primitive.TheVariants.{Boolean, Int, Long
 use Rattle.schema.specs.declared.types.Kind.{Kind}
 use Rattle.schema.specs.declared.types.Kind.TheVariants as kind
 use Rattle.schema.specs.declared.code.Form.{Form}
+use Rattle.schema.specs.declared.code.UnknownType.{UnknownType}
 use Rattle.schema.specs.declared.code.Form.TheVariants.{Plain, Sized, Group, One, Pair, Decimal}
 
 -- the primitive type that a type stands for
@@ -53,6 +54,6 @@ decimal? Pair = false
 decimal? Decimal = true
 
 -- the code is listed and its form is this one, or it is not listed
-abbrev pub Formed : ℕ → Option Form → Type 0
-Formed c (Some f) = ((nat_le 1 c && nat_le c 19) ≡ true) × (schema.kind_of c ≡ formed f) × ((c == 6) ≡ decimal? f)
-Formed c None = (nat_le 1 c && nat_le c 19) ≡ false
+abbrev pub Formed : ℕ → Result Form UnknownType → Type 0
+Formed c (Ok f) = ((nat_le 1 c && nat_le c 19) ≡ true) × (schema.kind_of c ≡ formed f) × ((c == 6) ≡ decimal? f)
+Formed c (Err e) = ((nat_le 1 c && nat_le c 19) ≡ false) × (e.0 ≡ c)

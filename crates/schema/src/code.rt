@@ -13,30 +13,37 @@ pub enum Form {
     Decimal,
 }
 
-// The form that belongs to a type code, if the code is listed.
-pub fn form_of(code: u8) -> Option<Form>
-    ensures { Formed code result }
-{
-    match code {
-        1 => Some(Form::Plain(Primitive::Boolean)),
-        2 => Some(Form::Plain(Primitive::Int)),
-        3 => Some(Form::Plain(Primitive::Long)),
-        4 => Some(Form::Plain(Primitive::Float)),
-        5 => Some(Form::Plain(Primitive::Double)),
-        6 => Some(Form::Decimal),
-        7 => Some(Form::Plain(Primitive::Date)),
-        8 => Some(Form::Plain(Primitive::Time)),
-        9 => Some(Form::Plain(Primitive::Timestamp)),
-        10 => Some(Form::Plain(Primitive::Timestamptz)),
-        11 => Some(Form::Plain(Primitive::TimestampNs)),
-        12 => Some(Form::Plain(Primitive::TimestamptzNs)),
-        13 => Some(Form::Plain(Primitive::String)),
-        14 => Some(Form::Plain(Primitive::Uuid)),
-        15 => Some(Form::Sized),
-        16 => Some(Form::Plain(Primitive::Binary)),
-        17 => Some(Form::Group),
-        18 => Some(Form::One),
-        19 => Some(Form::Pair),
-        _ => None,
+// A type code that is not listed.
+#[derive(Clone, Copy)]
+pub struct UnknownType(pub u8);
+
+impl TryFrom<u8> for Form {
+    type Error = UnknownType;
+
+    ghost try_from_gives = { Formed };
+
+    fn try_from(code: u8) -> Result<Form, UnknownType> {
+        match code {
+            1 => Ok(Form::Plain(Primitive::Boolean)),
+            2 => Ok(Form::Plain(Primitive::Int)),
+            3 => Ok(Form::Plain(Primitive::Long)),
+            4 => Ok(Form::Plain(Primitive::Float)),
+            5 => Ok(Form::Plain(Primitive::Double)),
+            6 => Ok(Form::Decimal),
+            7 => Ok(Form::Plain(Primitive::Date)),
+            8 => Ok(Form::Plain(Primitive::Time)),
+            9 => Ok(Form::Plain(Primitive::Timestamp)),
+            10 => Ok(Form::Plain(Primitive::Timestamptz)),
+            11 => Ok(Form::Plain(Primitive::TimestampNs)),
+            12 => Ok(Form::Plain(Primitive::TimestamptzNs)),
+            13 => Ok(Form::Plain(Primitive::String)),
+            14 => Ok(Form::Plain(Primitive::Uuid)),
+            15 => Ok(Form::Sized),
+            16 => Ok(Form::Plain(Primitive::Binary)),
+            17 => Ok(Form::Group),
+            18 => Ok(Form::One),
+            19 => Ok(Form::Pair),
+            _ => Err(UnknownType(code)),
+        }
     }
 }

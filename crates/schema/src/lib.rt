@@ -2,7 +2,8 @@
 
 mod code;
 mod fields;
+mod text;
 mod types;
 
 pub use fields::read_schema;
-pub use types::{FieldEntry, Kind, Primitive};
+pub use types::{Field, FieldEntry, Kind, Primitive};

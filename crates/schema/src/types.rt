@@ -29,19 +29,23 @@ pub enum Kind {
     Map,
 }
 
-// An entry of the table of fields: a field, and the number after the fields below it.
+// A field, and the number after the fields below it. Its name is a part of a file: where it lies there, in the table of
+// fields, or the bytes themselves.
 #[derive(Clone, Copy)]
-pub struct FieldEntry {
+pub struct Field<P> {
     pub id: i32,
     pub required: bool,
-    pub name: Span,
+    pub name: P,
     pub kind: Kind,
     pub end: usize,
 }
 
+// An entry of the table of fields.
+pub type FieldEntry = Field<Span>;
+
 impl FieldEntry {
     // The blank entry: all zero.
-    pub const BLANK: FieldEntry = FieldEntry {
+    pub const BLANK: FieldEntry = Field {
         id: 0,
         required: false,
         name: Span { start: 0, len: 0 },

@@ -1,8 +1,8 @@
 // What no file alone can show: work tables of several sizes, and tables that are used again.
 #![tactic(auto)]
 
-use anyhow::anyhow;
-use batch::{Batch, Tables};
+use anyhow::bail;
+use batch::{Batch, Tables, Unread};
 use std::alloc::Global;
 
 // Tables for so many fields and columns.
@@ -36,13 +36,10 @@ fn main(rt: HostRuntime) -> anyhow::Result<()> {
 // The line of the refused file, with tables for so many fields and columns.
 fn answer(heap: Global, fields: usize, columns: usize) -> anyhow::Result<String> {
     let tables = Tables::with_room(heap, fields, columns)?;
-    match Batch::read(&OTHER_EDITION, tables) {
-        Ok(_) => Err(anyhow!("a file of another edition was accepted")),
-        Err(unread) => {
-            let fault = unread.fault;
-            Ok(format!(in heap; "{fault}")?)
-        }
-    }
+    let Err(Unread { fault, .. }) = Batch::read(&OTHER_EDITION, tables) else {
+        bail!("a file of another edition was accepted");
+    };
+    Ok(format!(in heap; "{fault}")?)
 }
 
 // Prints the number of rows of a file, or why it is refused, and gives the tables back.
@@ -53,10 +50,9 @@ fn read_into(rt: &HostRuntime, file: &[u8], tables: Tables) -> anyhow::Result<Ta
             println!(rt; "rows {rows}")?;
             Ok(batch.into_tables())
         }
-        Err(unread) => {
-            let fault = unread.fault;
+        Err(Unread { fault, tables }) => {
             println!(rt; "{fault}")?;
-            Ok(unread.tables)
+            Ok(tables)
         }
     }
 }

@@ -5,11 +5,11 @@ use Rattle.info.proofs.Adding.{all_asked}
 use Rattle.info.proofs.Reporting.{batch-text}
 use Rattle.info.proofs.describe.report_batch.Goals as goal
 
-pub put_lines-requires : goal.put_lines-requires
-put_lines-requires c = (all_asked (model c.args.batch.now).fields c.field_count-fields_end.result c.field_count-fields_end.ensures, (omega arith, omega arith))
+pub put_lines-requires-clause-whole : goal.put_lines-requires-clause-whole
+put_lines-requires-clause-whole c = all_asked (model c.args.batch.now).fields c.field_count-fields_end.result c.field_count-fields_end.ensures
 
-pub put_lines-requires-2 : goal.put_lines-requires-2
-put_lines-requires-2 c = (all_asked (model c.args.batch.now).columns c.column_count-columns_end.result c.column_count-columns_end.ensures, (omega arith, omega arith))
+pub put_lines-requires-2-clause-whole : goal.put_lines-requires-2-clause-whole
+put_lines-requires-2-clause-whole c = all_asked (model c.args.batch.now).columns c.column_count-columns_end.result c.column_count-columns_end.ensures
 
 pub returns : goal.returns
 returns c =

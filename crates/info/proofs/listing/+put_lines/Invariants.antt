@@ -8,7 +8,7 @@ decreases-put_lines g l = l.end - l.first
 
 abbrev pub invariant-loop-n : goal.invariant-loop-n
 invariant-loop-n g l =
-    Putting (g.L.Listing.forest l.list) g.L.Listing.line l.level l.first l.end l.n (string_bytes l.initial.out) (string_bytes l.out)
+    Putting (g.L.Listing.forest l.list) g.L.Listing.text l.level l.first l.end l.n (string_bytes l.initial.out) (string_bytes l.out)
 
 abbrev pub decreases-loop-n : goal.decreases-loop-n
 decreases-loop-n g l = l.end - l.n

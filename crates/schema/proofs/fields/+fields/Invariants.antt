@@ -11,8 +11,8 @@ decreases-read_fields l = 3 * l.level
 abbrev pub decreases-read_field : goal.decreases-read_field
 decreases-read_field l = 3 * l.level + 2
 
-abbrev pub decreases-read_type : goal.decreases-read_type
-decreases-read_type l = 3 * l.level + 1
+abbrev pub decreases-read_kind : goal.decreases-read_kind
+decreases-read_kind l = 3 * l.level + 1
 
 abbrev pub invariant-read_fields-loop : goal.invariant-read_fields-loop
-invariant-read_fields-loop l = Going field_table field_family l.initial.reader l.reader l.initial.table l.table l.level l.count l.key l.is_key l.n l.next l.counter
+invariant-read_fields-loop l = Going field_table field_family l.initial.to l.to l.level l.count l.key l.is_key l.counter
