@@ -4,7 +4,7 @@ use items::Width;
 pub type Field<'a> = schema::Field<&'a [u8]>;
 
 // Offsets as they are stored: each has so many bytes, low byte first.
-#[derive(Clone, Copy)]
+#[derive(Clone, Copy, Debug, PartialEq, Eq)]
 pub struct OffsetBuffer<'a> {
     pub width: Width,
     pub bytes: &'a [u8],

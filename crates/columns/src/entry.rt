@@ -3,7 +3,7 @@ use items::{Offsets, Span, Width};
 
 // A column, and the number after the columns below it. Its texts, bits, offsets and stored bytes are parts of a file: where they
 // lie there, in the table of columns, or the bytes themselves.
-#[derive(Clone, Copy)]
+#[derive(Clone, Copy, Debug, PartialEq, Eq)]
 pub struct Column<P, O> {
     pub name: P,
     pub id_text: Option<P>,

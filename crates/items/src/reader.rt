@@ -11,14 +11,14 @@ pub struct Reader<'a> {
 }
 
 // A part of the file's bytes.
-#[derive(Clone, Copy)]
+#[derive(Clone, Copy, Debug, PartialEq, Eq)]
 pub struct Span {
     pub start: usize,
     pub len: usize,
 }
 
 // Offsets as they stand in the file: so many, of this width, from a byte on.
-#[derive(Clone, Copy)]
+#[derive(Clone, Copy, Debug, PartialEq, Eq)]
 pub struct Offsets {
     pub width: Width,
     pub count: usize,

@@ -3,7 +3,7 @@ ghost use Rattle.meaning.specs.Items.{little};
 ghost use Rattle.items.specs.Widths.{wide};
 
 // How many bytes an offset has.
-#[derive(Clone, Copy)]
+#[derive(Clone, Copy, Debug, PartialEq, Eq)]
 pub enum Width {
     Four,
     Eight,

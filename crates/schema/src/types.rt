@@ -1,7 +1,7 @@
 use items::Span;
 
 // The types that hold no others.
-#[derive(Clone, Copy)]
+#[derive(Clone, Copy, Debug, PartialEq, Eq)]
 pub enum Primitive {
     Boolean,
     Int,
@@ -21,7 +21,7 @@ pub enum Primitive {
 }
 
 // A field's type, without the fields that it holds.
-#[derive(Clone, Copy)]
+#[derive(Clone, Copy, Debug, PartialEq, Eq)]
 pub enum Kind {
     Primitive(Primitive),
     Struct,
@@ -31,7 +31,7 @@ pub enum Kind {
 
 // A field, and the number after the fields below it. Its name is a part of a file: where it lies there, in the table of
 // fields, or the bytes themselves.
-#[derive(Clone, Copy)]
+#[derive(Clone, Copy, Debug, PartialEq, Eq)]
 pub struct Field<P> {
     pub id: i32,
     pub required: bool,
