@@ -1,11 +1,16 @@
 -- What stands after a column's head: its body, layout by layout.
-use Rattle.std.specs.Prelude.{ℕ, ◌+◌, List, []}
+use Rattle.std.specs.Prelude.{ℕ, ◌+◌, List, [], Result, IfOk}
 use Rattle.meaning.specs.Forest.{Forest, none, size}
 use Rattle.meaning.specs.Model.{Column}
 use Rattle.meaning.specs.Items.{column, Read, ◌then◌, give, exactly, number}
 use Rattle.meaning.specs.Columns.{Body, Columns, after, body, exact, first_len, free, offsets, values, past, unless}
 use Rattle.items.specs.Cuts.{Fits, offsets_of}
-use Rattle.items.specs.Reading.{Inside, part}
+use Rattle.fault.specs.declared.faults.BatchFault.{BatchFault}
+use Rattle.items.specs.declared.reader.Reader.{Reader}
+use Rattle.items.specs.declared.entries.EntryReader.{EntryReader}
+use Rattle.items.specs.Reading.{Inside, Reads, file, part}
+use Rattle.items.specs.Tables.{Enters}
+use Rattle.columns.specs.Entries.{ColumnEntry, column_table}
 use Rattle.columns.specs.declared.body.Body.{Body as Body'}
 use Rattle.columns.specs.declared.length.Holder.{Holder}
 use Rattle.columns.specs.Holders.{held_by}
@@ -18,6 +23,16 @@ body_meant bytes b below = body (values (offsets_of bytes b.offsets)) (part byte
 pub record BodyInside (bytes : List ℕ) (b : Body') : Type 0 where
   pub offsets : Fits bytes b.offsets
   pub stored : Inside bytes b.stored
+
+-- a call reads a body that holds no columns, and what it names lies in the file
+pub record ReadsBody (read : Read Body) (before : Reader) (result : Result Body' BatchFault) (after : Reader) : Type 0 where
+  pub reads : Reads (λ b. body_meant (file before) b none) read before result after
+  pub inside : IfOk result (BodyInside (file before))
+
+-- the same with the columns that it holds, which stand in the table from number n on
+pub record EntersBody (read : Read Body) (n : ℕ) (old : EntryReader ColumnEntry) (result : Result Body' BatchFault) (new : EntryReader ColumnEntry) : Type 0 where
+  pub fills : Enters column_table (body_meant (file old.reader.now)) read n old result new
+  pub inside : IfOk result (BodyInside (file old.reader.now))
 
 -- so many stored bytes
 abbrev pub stored_from : ℕ → ℕ → Read Body

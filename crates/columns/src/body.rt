@@ -2,7 +2,7 @@ ghost use Rattle.std.specs.Prelude.{◌≡◌, ◌+◌, ◌≤◌, length, IfOk}
 ghost use Rattle.meaning.specs.Forest.{none};
 ghost use Rattle.items.specs.Reading.{Reads, file};
 ghost use Rattle.items.specs.Widths.{wide};
-ghost use Rattle.columns.specs.Bodies.{BodyInside, body_meant, stored_from, variable_from};
+ghost use Rattle.columns.specs.Bodies.{ReadsBody, stored_from, variable_from};
 ghost use Rattle.columns.specs.declared.body.Body.{Body as Bod};
 
 use crate::entry::NO_OFFSETS;
@@ -19,8 +19,7 @@ pub(crate) struct Body {
 
 // The body of column `n`: so many bytes.
 pub(crate) fn read_stored(reader: &mut Reader, n: usize, bytes: usize) -> Result<Body, BatchFault>
-    ensures reads { Reads (λ (b : Bod). body_meant (file reader.old) b none) (stored_from n bytes) reader.old result reader.new }
-    ensures inside { IfOk result (BodyInside (file reader.old)) }
+    ensures { ReadsBody (stored_from n bytes) reader.old result reader.new }
 {
     let stored = reader.exactly(bytes, Entry::Column(n))?;
     Ok(Body {
@@ -36,8 +35,7 @@ pub(crate) fn read_variable(
     width: Width,
     len: Slots,
 ) -> Result<Body, BatchFault>
-    ensures reads { Reads (λ (b : Bod). body_meant (file reader.old) b none) (variable_from n (wide width) len.count) reader.old result reader.new }
-    ensures inside { IfOk result (BodyInside (file reader.old)) }
+    ensures { ReadsBody (variable_from n (wide width) len.count) reader.old result reader.new }
 {
     let entry = Entry::Column(n);
     let offsets = reader.offsets(width, len.count + 1, n)?;

@@ -6,7 +6,7 @@ ghost use Rattle.items.specs.Cuts.{Fits};
 ghost use Rattle.items.specs.Reading.{file};
 ghost use Rattle.items.specs.Tables.{Enters, Fills};
 ghost use Rattle.items.specs.Widths.{wide};
-ghost use Rattle.columns.specs.Bodies.{BodyInside, body_meant, children_from, list_from, map_from};
+ghost use Rattle.columns.specs.Bodies.{EntersBody, children_from, list_from, map_from};
 ghost use Rattle.columns.specs.Codes.{code_meant};
 ghost use Rattle.columns.specs.Entries.{blank, column_table, columns_in};
 ghost use Rattle.columns.specs.Heads.{column_from};
@@ -118,8 +118,7 @@ fn read_body(
     len: Slots,
 ) -> Result<Body, BatchFault>
     requires { to.old.next ≤ 256 }
-    ensures fills { Enters column_table (body_meant (file to.old.reader.now)) (columns.body_of (columns.columns level) to.old.next len.count (code_meant code)) (to.old.next + 1) to.old result to.new }
-    ensures inside { IfOk result (BodyInside (file to.old.reader.now)) }
+    ensures { EntersBody (columns.body_of (columns.columns level) to.old.next len.count (code_meant code)) (to.old.next + 1) to.old result to.new }
 {
     let n = to.next;
     to.next += 1;
@@ -156,8 +155,7 @@ fn read_children(
     holder: Holder,
 ) -> Result<Body, BatchFault>
     requires { Fits (file to.old.reader.now) holder.cut }
-    ensures fills { Enters column_table (body_meant (file to.old.reader.now)) (children_from (file to.old.reader.now) level count holder to.old.next) to.old.next to.old result to.new }
-    ensures inside { IfOk result (BodyInside (file to.old.reader.now)) }
+    ensures { EntersBody (children_from (file to.old.reader.now) level count holder to.old.next) to.old.next to.old result to.new }
 {
     read_columns(to, level, count, holder)?;
     Ok(Body {
@@ -175,8 +173,7 @@ fn read_list(
     width: Width,
     len: Slots,
 ) -> Result<Body, BatchFault>
-    ensures fills { Enters column_table (body_meant (file to.old.reader.now)) (list_from (columns.columns level) n to.old.next (wide width) len.count) to.old.next to.old result to.new }
-    ensures inside { IfOk result (BodyInside (file to.old.reader.now)) }
+    ensures { EntersBody (list_from (columns.columns level) n to.old.next (wide width) len.count) to.old.next to.old result to.new }
 {
     let offsets = to.reader.offsets(width, len.count + 1, n)?;
     let holder = Holder {
@@ -195,8 +192,7 @@ fn read_map(
     n: usize,
     len: Slots,
 ) -> Result<Body, BatchFault>
-    ensures fills { Enters column_table (body_meant (file to.old.reader.now)) (map_from (columns.columns level) n to.old.next len.count) to.old.next to.old result to.new }
-    ensures inside { IfOk result (BodyInside (file to.old.reader.now)) }
+    ensures { EntersBody (map_from (columns.columns level) n to.old.next len.count) to.old.next to.old result to.new }
 {
     let offsets = to.reader.offsets(Width::Four, len.count + 1, n)?;
     let keys = Holder {

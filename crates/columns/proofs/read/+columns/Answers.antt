@@ -1,4 +1,4 @@
-use Rattle.std.proofs.Common.{◌-◌, Ok, Err, ap, ◌∙◌, subst, inl, inr, arith}
+use Rattle.std.proofs.Common.{◌-◌, Ok, Err, ap, ◌∙◌, subst, inl, inr, arith, rules}
 use Rattle.std.proofs.lemmas.Result.{err_from_is_err_and}
 use Rattle.meaning.specs.Forest.{Forest}
 use Rattle.meaning.specs.Model as model
@@ -57,12 +57,15 @@ read_map-offset_bounds-to-key t c = let one = one_read c.args.level (record { ne
 pub read_map-bounds-to-key : goal.read_map-bounds-to-key
 read_map-bounds-to-key t c = let one = one_read c.args.level (record { need = Free; cut = c.in_ok-offsets.offsets; owner = c.args.n }) c.in_ok-read_columns.ensures.fills in omega (arith, one.room)
 
-pub read_map-returns-clause-fills : goal.read_map-returns-clause-fills
-read_map-returns-clause-fills t c =
+pub read_map-returns : goal.read_map-returns
+read_map-returns t c =
     let k = c.in_ok-read_columns.ensures in
     let b = c.read_children.ensures.fills in
     record {
-      reader = b.reader ∙ k.reader;
-      table = b.table ∙ k.table;
-      fills = map-read c.args.level c.args.len.count c.args.n c.in_ok-offsets.ensures.reads k.fills c.read_children.result (omega arith) b.fills;
+      fills = record {
+        reader = b.reader ∙ k.reader;
+        table = b.table ∙ k.table;
+        fills = map-read c.args.level c.args.len.count c.args.n c.in_ok-offsets.ensures.reads k.fills c.read_children.result (omega arith) b.fills;
+      };
+      inside = search rules;
     }
