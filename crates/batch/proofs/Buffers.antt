@@ -44,3 +44,17 @@ pub seen : (width : Width) (file : List ℕ) (start count k : ℕ) (bs : List �
     → values (placed (wide width) bs 0 (length bs / wide width)) ≡ values (placed (wide width) file start count)
 seen Four file start count k bs e h is = buffered 4 file start count h quarter bs (is ∙ ap (λ n. take (n * count) (drop start file)) e)
 seen Eight file start count k bs e h is = buffered 8 file start count h eighth bs (is ∙ ap (λ n. take (n * count) (drop start file)) e)
+
+length-values : (w : ℕ) (bytes : List ℕ) (at k : ℕ) → length (values (placed w bytes at k)) ≡ k
+length-values w bytes at zero = refl
+length-values w bytes at (suc k) = omega (arith, length-values w bytes (at + w) k)
+
+-- a buffer has as many bytes as its offsets need
+pub whole : (width : Width) (file : List ℕ) (start count k : ℕ) (bs : List ℕ) → k ≡ wide width → start + wide width * count ≤ length file → bs ≡ take (k * count) (drop start file)
+    → length bs ≡ wide width * length (values (placed (wide width) bs 0 (length bs / wide width)))
+whole width file start count k bs e h is =
+    let n : length bs ≡ wide width * count =
+    ap length is ∙ ap (λ k. length (take (k * count) (drop start file))) e ∙ length-take-le (wide width * count) (drop start file) (omega (arith, length-drop start file))
+    in
+    let v = seen width file start count k bs e h is in
+    n ∙ ap (λ c. wide width * c) (sym (ap length v ∙ length-values (wide width) file start count))

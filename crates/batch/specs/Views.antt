@@ -1,5 +1,5 @@
 -- What the views of fields and columns say.
-use Rattle.std.specs.Prelude.{ℕ, ◌+◌, ◌/◌, List, length, Option}
+use Rattle.std.specs.Prelude.{◌≡◌, ℕ, ◌+◌, ◌*◌, ◌/◌, List, length, Option}
 use Rattle.std.specs.Borrow.{Bor}
 use Rattle.std.specs.Option.{option_map}
 use Rattle.meaning.specs.Forest.{Forest, size}
@@ -39,6 +39,10 @@ maybe_part_of o = option_map (λ x. x.now) o
 -- the offsets that stand one after the other in a buffer
 abbrev pub offsets_seen : OffsetBuffer → List ℕ
 offsets_seen o = values (placed (wide o.width) o.bytes.now 0 (length o.bytes.now / wide o.width))
+
+-- a buffer has as many bytes as its offsets need, and no more
+abbrev pub HasWholeOffsets : OffsetBuffer → Type 0
+HasWholeOffsets o = length o.bytes.now ≡ wide o.width * length (offsets_seen o)
 
 -- the column that a view shows
 abbrev pub column_of : Column → model.Column

@@ -1,6 +1,6 @@
-ghost use Rattle.std.specs.Prelude.{◌≡◌, ◌+◌, ◌-◌, ◌<◌, ◌≤◌, ◌⊎◌, length, slice_get, MatchOption, Some};
+ghost use Rattle.std.specs.Prelude.{◌≡◌, ◌+◌, ◌-◌, ◌<◌, ◌≤◌, ◌⊎◌, length, slice_get, IfSome, MatchOption, Some};
 ghost use Rattle.batch.specs.Batches.{model};
-ghost use Rattle.batch.specs.Views.{column_seen, field_seen, maybe_part_of, numbered, offsets_seen};
+ghost use Rattle.batch.specs.Views.{HasWholeOffsets, column_seen, field_seen, maybe_part_of, numbered, offsets_seen};
 ghost use Rattle.columns.specs.Entries.{MaybeInside};
 ghost use Rattle.items.specs.Cuts.{Fits, offsets_of};
 ghost use Rattle.items.specs.Reading.{Inside, part as part_of};
@@ -51,7 +51,8 @@ impl<'a> Batch<'a> {
 
     // Column `n`, if there is one: they are numbered from 1 in file order.
     pub fn column(&self, n: usize) -> Option<Column<'a>>
-        ensures { option_map column_seen result ≡ numbered n (find n 1 (model self.now).columns) }
+        ensures shows { option_map column_seen result ≡ numbered n (find n 1 (model self.now).columns) }
+        ensures whole { IfSome result (λ c. HasWholeOffsets c.offsets) }
     {
         let entry = numbered(&self.tables.columns, self.sizes.columns, n)?;
         let name = part(self.bytes, entry.name);
@@ -101,7 +102,8 @@ fn maybe_part(bytes: &[u8], span: Option<Span>) -> Option<&[u8]>
 // The bytes of offsets that stand in the file.
 fn offset_buffer(bytes: &[u8], offsets: Offsets) -> OffsetBuffer<'_>
     requires { Fits bytes.now offsets }
-    ensures { offsets_seen result ≡ values (offsets_of bytes.now offsets) }
+    ensures shows { offsets_seen result ≡ values (offsets_of bytes.now offsets) }
+    ensures whole { HasWholeOffsets result }
 {
     let width = offsets.width;
     let span = Span {

@@ -6,8 +6,8 @@ use Rattle.batch.specs.Views.{column_seen}
 use Rattle.batch.proofs.Seen.{nothing_there, entry_is, fitting, column_is}
 use Rattle.batch.proofs.batch.Batch.column.Goals as goal
 
-pub returns-in_err-entry : goal.returns-in_err-entry
-returns-in_err-entry c =
+pub returns-in_err-entry-clause-shows : goal.returns-in_err-entry-clause-shows
+returns-in_err-entry-clause-shows c =
     ap (option_map column_seen) c.from_residual.ensures
     ∙ nothing_there c.args.n (model c.args.self.now).columns (elim c.in_err-entry.ensures [ inl z ↦ inl z | inr p ↦ inr (omega (arith, p, c.args.self.now.counted)) ])
 
@@ -41,9 +41,9 @@ part-body-requires c =
     let e = c.in_ok-entry.ensures in
     (fitting self.standing c.args.n e.0.0 (omega (arith, e.0.1, self.counted)) c.in_ok-entry.entry (entry_is column_table _ _ c.args.n _ c.deref.ensures.value e.1)).body
 
-pub returns : goal.returns
-returns c =
+pub returns-clause-shows : goal.returns-clause-shows
+returns-clause-shows c =
     let self = c.args.self.now in
     let e = c.in_ok-entry.ensures in
     column_is self.standing c.args.n e.0.0 (omega (arith, e.0.1, self.counted)) c.in_ok-entry.entry (entry_is column_table _ _ c.args.n _ c.deref.ensures.value e.1) _ _ _ _ _
-    c.part-name.ensures c.maybe_part-id_text.ensures c.maybe_part-validity.ensures c.offset_buffer-offsets.ensures c.part-body.ensures
+    c.part-name.ensures c.maybe_part-id_text.ensures c.maybe_part-validity.ensures c.offset_buffer-offsets.ensures.shows c.part-body.ensures
