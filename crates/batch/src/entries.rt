@@ -38,7 +38,7 @@ impl<'a> Batch<'a> {
     pub fn field(&self, n: usize) -> Option<Field<'a>>
         ensures { option_map field_seen result ≡ numbered n (find n 1 (model self.now).fields) }
     {
-        let entry = numbered(&self.tables.fields, self.sizes.fields, n)?;
+        let entry = entry_at(&self.tables.fields, self.sizes.fields, n)?;
         let name = part(self.bytes, entry.name);
         Some(Field {
             id: entry.id,
@@ -54,7 +54,7 @@ impl<'a> Batch<'a> {
         ensures shows { option_map column_seen result ≡ numbered n (find n 1 (model self.now).columns) }
         ensures whole { IfSome result (λ c. HasWholeOffsets c.offsets) }
     {
-        let entry = numbered(&self.tables.columns, self.sizes.columns, n)?;
+        let entry = entry_at(&self.tables.columns, self.sizes.columns, n)?;
         let name = part(self.bytes, entry.name);
         let id_text = maybe_part(self.bytes, entry.id_text);
         let validity = maybe_part(self.bytes, entry.validity);
@@ -74,7 +74,7 @@ impl<'a> Batch<'a> {
 }
 
 // The entry with number `n` of the first `count`, which are numbered from 1.
-fn numbered<E: Copy>(table: &[E], count: usize, n: usize) -> Option<E>
+fn entry_at<E: Copy>(table: &[E], count: usize, n: usize) -> Option<E>
     requires { count ≤ length table.now }
     ensures { MatchOption result ((n ≡ 0) ⊎ (count < n)) (λ e. ((1 ≤ n) × (n ≤ count)) × (slice_get table.now (n - 1) ≡ Some e)) }
 {

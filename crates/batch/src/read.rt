@@ -1,5 +1,5 @@
 ghost use Rattle.std.specs.Prelude.{◌≡◌, vec_len};
-ghost use Rattle.batch.specs.Batches.{Emptied, Lawful, Same, model, said};
+ghost use Rattle.batch.specs.Batches.{Emptied, Lawful, Same, said};
 ghost use Rattle.batch.specs.Blank.{Blank};
 ghost use Rattle.batch.specs.Loaded.{read_in};
 

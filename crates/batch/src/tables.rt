@@ -1,4 +1,4 @@
-ghost use Rattle.std.specs.Prelude.{◌≡◌, ℕ, IfOk, vec_len};
+ghost use Rattle.std.specs.Prelude.{IfOk, vec_len};
 ghost use Rattle.batch.specs.Blank.{Blank};
 
 use columns::ColumnEntry;

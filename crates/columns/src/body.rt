@@ -1,9 +1,5 @@
-ghost use Rattle.std.specs.Prelude.{◌≡◌, ◌+◌, ◌≤◌, length, IfOk};
-ghost use Rattle.meaning.specs.Forest.{none};
-ghost use Rattle.items.specs.Reading.{Reads, file};
 ghost use Rattle.items.specs.Widths.{wide};
 ghost use Rattle.columns.specs.Bodies.{ReadsBody, stored_from, variable_from};
-ghost use Rattle.columns.specs.declared.body.Body.{Body as Bod};
 
 use crate::entry::NO_OFFSETS;
 use crate::slots::Slots;

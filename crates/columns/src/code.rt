@@ -1,4 +1,4 @@
-ghost use Rattle.std.specs.Prelude.{◌≡◌, ℕ};
+ghost use Rattle.std.specs.Prelude.{ℕ};
 ghost use Rattle.meaning.specs.Columns as columns;
 ghost use Rattle.items.specs.Reading.{Reads};
 ghost use Rattle.fault.specs.Faults.{entry_of};

@@ -1,9 +1,8 @@
-ghost use Rattle.std.specs.Prelude.{◌≡◌, ◌+◌, ◌*◌, ◌≤◌, length, IfOk};
+ghost use Rattle.std.specs.Prelude.{IfOk};
 ghost use Rattle.std.specs.Fn.{FnOnceReturnsAtMut};
 ghost use Rattle.fault.specs.Faults.{entry_of};
 ghost use Rattle.items.specs.Cuts.{Fits};
 ghost use Rattle.items.specs.Reading.{Reads, file};
-ghost use Rattle.items.specs.Widths.{wide};
 ghost use Rattle.columns.specs.Heads.{Follows, HeadInside, head_meant, headed};
 
 use crate::code::{Code, read_code};

@@ -1,8 +1,7 @@
-ghost use Rattle.std.specs.Prelude.{◌≡◌, ◌+◌, ◌*◌, ◌≤◌, length};
+ghost use Rattle.std.specs.Prelude.{◌≡◌};
 ghost use Rattle.meaning.specs.Columns as columns;
 ghost use Rattle.items.specs.Cuts.{Fits, offsets_of};
 ghost use Rattle.items.specs.Reading.{Reads, file};
-ghost use Rattle.items.specs.Widths.{wide};
 ghost use Rattle.columns.specs.Entries.{no_offsets};
 ghost use Rattle.columns.specs.Holders.{need_of};
 ghost use Rattle.columns.specs.declared.slots.Slots.{Slots as Slo};

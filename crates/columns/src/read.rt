@@ -1,4 +1,4 @@
-ghost use Rattle.std.specs.Prelude.{◌≡◌, ℕ, ◌+◌, ◌*◌, ◌≤◌, length, replicate, IfOk, OnErr};
+ghost use Rattle.std.specs.Prelude.{◌≡◌, ℕ, ◌+◌, ◌≤◌, length, replicate, OnErr};
 ghost use Rattle.meaning.specs.Columns as columns;
 ghost use Rattle.meaning.specs.Forest.{Forest};
 ghost use Rattle.meaning.specs.Model as model;

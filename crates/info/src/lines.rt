@@ -16,6 +16,18 @@ pub(crate) struct Line<T> {
     pub(crate) entry: T,
 }
 
+impl<T> Line<T> {
+    pub(crate) fn new(level: usize, number: usize, entry: T) -> Self
+        ensures { result ≡ record { level = level; number = number; entry = entry } }
+    {
+        Line {
+            level,
+            number,
+            entry,
+        }
+    }
+}
+
 // A column's id text, or `none`.
 #[derive(Clone, Copy)]
 struct IdText<'a>(Option<&'a [u8]>);

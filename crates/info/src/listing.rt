@@ -46,12 +46,7 @@ impl<'a> Listing for Fields<'_, 'a> {
 
     fn line(&self, level: usize, number: usize) -> Option<(Line<Field<'a>>, usize)> {
         let entry = self.0.field(number)?;
-        let line = Line {
-            level,
-            number,
-            entry,
-        };
-        Some((line, entry.end))
+        Some((Line::new(level, number, entry), entry.end))
     }
 }
 
@@ -66,12 +61,7 @@ impl<'a> Listing for Columns<'_, 'a> {
 
     fn line(&self, level: usize, number: usize) -> Option<(Line<Column<'a>>, usize)> {
         let entry = self.0.column(number)?;
-        let line = Line {
-            level,
-            number,
-            entry,
-        };
-        Some((line, entry.end))
+        Some((Line::new(level, number, entry), entry.end))
     }
 }
 

@@ -6,3 +6,4 @@ pub mod Seeking
 pub mod Filling
 pub mod Siblings
 pub mod Finding
+pub mod Blanking

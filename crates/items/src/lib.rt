@@ -1,5 +1,6 @@
 #![tactic(auto)]
 
+mod blank;
 mod entries;
 mod item;
 mod numeral;
@@ -7,6 +8,7 @@ mod offsets;
 mod reader;
 mod width;
 
+pub use blank::fill;
 pub use entries::EntryReader;
 pub use reader::{Offsets, Reader, Span};
 pub use width::Width;

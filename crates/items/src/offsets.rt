@@ -1,9 +1,9 @@
-ghost use Rattle.std.specs.Prelude.{◌≡◌, ℕ, ◌+◌, ◌*◌, ◌≤◌, length, IfOk, if◌then◌else◌, None, OnErr, nat_le};
+ghost use Rattle.std.specs.Prelude.{◌≡◌, ℕ, ◌+◌, ◌*◌, length, IfOk, if◌then◌else◌, None, nat_le};
 ghost use Rattle.meaning.specs.Columns as columns;
 ghost use Rattle.fault.specs.Faults.{entry_of};
 ghost use Rattle.items.specs.declared.reader.Offsets.{Offsets as Off};
 ghost use Rattle.items.specs.Cuts.{offset_after, offsets_of, Standing};
-ghost use Rattle.items.specs.Reading.{Reads, file};
+ghost use Rattle.items.specs.Reading.{Reads, Takes, file};
 ghost use Rattle.items.specs.Widths.{wide};
 
 use crate::reader::{Offsets, Reader};
@@ -26,21 +26,18 @@ impl Reader<'_> {
 
     // The offsets of column `n`, `count` of them, none negative or below the one before it.
     pub fn offsets(&mut self, width: Width, count: usize, n: usize) -> Result<Offsets, BatchFault>
-        ensures reads { Reads (offsets_of (file self.old)) (columns.offsets (wide width) n count 0) self.old result self.new }
+        ensures takes { Takes (offsets_of (file self.old)) (columns.offsets (wide width) n count 0) self.old result self.new }
         ensures stand { IfOk result (Standing (file self.old) width count) }
         ensures ends { IfOk result (λ (o : Off). o.start + wide o.width * o.count ≡ self.new.at) }
-        ensures stays { OnErr result (self.new.at ≡ self.old.at) }
     {
         let start = self.at;
         let mut last = 0;
         for _ in 0..count {
-            last = match self.offset(width, last, Entry::Column(n)) {
-                Ok(value) => value,
-                Err(fault) => {
-                    self.at = start;
-                    return Err(fault);
-                }
-            };
+            let read = self.offset(width, last, Entry::Column(n));
+            if read.is_err() {
+                self.at = start;
+            }
+            last = read?;
         }
         Ok(Offsets {
             width,

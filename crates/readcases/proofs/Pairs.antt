@@ -60,3 +60,11 @@ module _ {F E : Type 0} (g : Mut F (Bor (List ℕ) × Unit {0}) (Result ℕ E))
   IsHex-collected s (Ok v) h =
       let bytes = read s h.2.1.0 h.2.0 h.0 h.1 v h.2.1.1 h.2.1.2 h.4 in
       subst (IsHex (chunks_rest (map_source s))) (sym (bytes.1 ∙ ap (λ l. l ++ bytes.0) h.3.0)) bytes.2
+
+-- a text has two digits for each byte
+pub length-IsHex : (text bytes : List ℕ) → IsHex text bytes → 2 * length bytes ≡ length text
+length-IsHex [] [] h = refl
+length-IsHex [] (b ∷ bs) h = absurd h
+length-IsHex (x ∷ []) bytes h = absurd h
+length-IsHex (x ∷ y ∷ t) [] h = absurd h
+length-IsHex (x ∷ y ∷ t) (b ∷ bs) h = omega (arith, length-IsHex t bs h.1)

@@ -35,6 +35,7 @@ impl File {
         Ok(())
     }
 
+    // The bytes themselves.
     pub fn as_slice(&self) -> &[u8]
         ensures { result.now ≡ self.now.bytes.items }
     {

@@ -1,5 +1,5 @@
 // Bytes that are written as hex digits, two to a byte.
-ghost use Rattle.std.specs.Prelude.{ℕ, [], ◌∷◌, IfOk, MatchResult};
+ghost use Rattle.std.specs.Prelude.{◌≡◌, ℕ, ◌*◌, [], ◌∷◌, length, IfOk, vec_len, MatchResult};
 ghost use Rattle.readcases.specs.Hex.{IsDigit, IsHex};
 
 use crate::case_fault::CaseFault;
@@ -7,7 +7,8 @@ use std::alloc::Global;
 
 // The bytes of a hex string.
 pub fn bytes_of(heap: Global, hex: &str) -> Result<Vec<u8>, CaseFault>
-    ensures { IfOk result (λ v. IsHex hex.now v.items) }
+    ensures bytes { IfOk result (λ v. IsHex hex.now v.items) }
+    ensures twice { IfOk result (λ v. 2 * vec_len v ≡ length hex.now) }
 {
     hex.as_bytes().chunks(2).map(byte).try_collect(heap)
 }

@@ -1,10 +1,12 @@
 -- A field and its type, against the definitions `fielded` and `typed`.
-use Rattle.std.proofs.Common.{◌≡◌, ℕ, ◌+◌, ◌-◌, ◌≤◌, Bool, true, false, cond, ◌&&◌, ◌||◌, eqb, leb, List, length, set, ℤ, Ok, Result, sym, refl, ap, ◌∙◌, subst}
+use Rattle.std.proofs.Common.{◌≡◌, ℕ, ◌+◌, ◌-◌, ◌≤◌, Bool, true, false, cond, ◌&&◌, ◌||◌, eqb, leb, List, length, set, ℤ, Ok, Err, Result, sym, refl, ap, ◌∙◌, subst}
 use Rattle.meaning.specs.Forest.{Forest, none, tree}
 use Rattle.meaning.specs.Model as model
 use Rattle.meaning.specs.Items.{field, BatchFault as Fault, Rest, Read, refused, carry, give, exactly, byte, flag, text, little, signed}
 use Rattle.meaning.specs.Schema.{fields, Fields, Type', Kind, kind_of, nested, type_by, typed}
+use Rattle.std.specs.Result.{MatchResult, IsErrAnd}
 use Rattle.schema.specs.declared.code.Form.{Form}
+use Rattle.schema.specs.declared.code.UnknownType.{UnknownType}
 use Rattle.items.specs.declared.reader.Reader.{Reader}
 use Rattle.items.specs.declared.reader.Span.{Span}
 use Rattle.schema.specs.declared.types.Kind.{Kind as Kind'}
@@ -58,6 +60,13 @@ module _ (kids : Fields) (key : Bool) (n : ℕ) where
       ap (λ b. b || (key && nested (kind_of c))) six ∙ ap (λ k. key && nested k) is ∙ ap (λ b. key && b) flat ∙ never key
       in
       ap (λ k. type_by kids n k r1) (sym is) ∙ sym (if_false (refused 7 (r1.at - 1) (field n)) (type_by kids n (kind_of c) r1) open_code) ∙ coded c r r1 e l
+
+-- a form that is left where an error was turned into a fault
+pub formed_after : {B : Type 0} (Q : UnknownType → B → Type 0) (c : ℕ) (r : Result Form UnknownType) (m : Result Form B) (form : Form)
+    → Formed c r → MatchResult r (λ x. m ≡ Ok x) (λ e. IsErrAnd m (Q e)) → m ≡ Ok form → Formed c (Ok form)
+formed_after Q c (Ok x) m form f k e = let same : x ≡ form = cc in subst (λ x. Formed c (Ok x)) same f
+formed_after Q c (Err e) (Ok x) form f k p = absurd k
+formed_after Q c (Err e) (Err x) form f k p = absurd cc
 
 -- the same by the form that the code takes the code byte for
 pub by_form :

@@ -56,4 +56,4 @@ decimal? Decimal = true
 -- the code is listed and its form is this one, or it is not listed
 abbrev pub Formed : ℕ → Result Form UnknownType → Type 0
 Formed c (Ok f) = ((nat_le 1 c && nat_le c 19) ≡ true) × (schema.kind_of c ≡ formed f) × ((c == 6) ≡ decimal? f)
-Formed c (Err e) = ((nat_le 1 c && nat_le c 19) ≡ false) × (e.0 ≡ c)
+Formed c (Err e) = (nat_le 1 c && nat_le c 19) ≡ false

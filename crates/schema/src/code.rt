@@ -4,7 +4,7 @@ use crate::types::Primitive;
 
 // How a type goes on after its code.
 #[derive(Clone, Copy)]
-pub enum Form {
+pub(crate) enum Form {
     Plain(Primitive),
     Sized,
     Group,
@@ -15,7 +15,7 @@ pub enum Form {
 
 // A type code that is not listed.
 #[derive(Clone, Copy)]
-pub struct UnknownType(pub u8);
+pub(crate) struct UnknownType;
 
 impl TryFrom<u8> for Form {
     type Error = UnknownType;
@@ -43,7 +43,7 @@ impl TryFrom<u8> for Form {
             17 => Ok(Form::Group),
             18 => Ok(Form::One),
             19 => Ok(Form::Pair),
-            _ => Err(UnknownType(code)),
+            _ => Err(UnknownType),
         }
     }
 }

@@ -97,9 +97,7 @@ fn read_kind(to: &mut EntryReader<FieldEntry>, level: usize, key: bool) -> Resul
     let entry = Entry::Field(to.next);
     let start = to.reader.at;
     let code = to.reader.byte(entry)?;
-    let Ok(form) = Form::try_from(code) else {
-        return Err(BatchFault::new(Refusal::Code, start, entry));
-    };
+    let form = Form::try_from(code).map_err(|_| BatchFault::new(Refusal::Code, start, entry))?;
     to.next += 1;
     match form {
         Form::Plain(p) => Ok(Kind::Primitive(p)),

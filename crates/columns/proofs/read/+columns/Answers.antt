@@ -65,7 +65,7 @@ read_map-returns t c =
       fills = record {
         reader = b.reader ∙ k.reader;
         table = b.table ∙ k.table;
-        fills = map-read c.args.level c.args.len.count c.args.n c.in_ok-offsets.ensures.reads k.fills c.read_children.result (omega arith) b.fills;
+        fills = map-read c.args.level c.args.len.count c.args.n c.in_ok-offsets.ensures.takes.reads k.fills c.read_children.result (omega arith) b.fills;
       };
       inside = search rules;
     }

@@ -1,13 +1,13 @@
 use Rattle.std.proofs.Common.{◌≡◌, ◌+◌, Err, refl, ap, ◌∙◌, inl, inr, arith, w32, to_z, of_z, rules}
 use Rattle.std.proofs.lemmas.Result.{err_from_is_err_and}
-use Rattle.schema.specs.declared.code.Form.TheVariants.{Sized}
+use Rattle.schema.specs.declared.code.Form.TheVariants.{Plain, Sized}
 use Rattle.meaning.specs.Forest.{none}
 use Rattle.meaning.specs.Items.{carry, give}
 use Rattle.meaning.specs.Model.{prim, fixed}
 use Rattle.meaning.specs.Schema.{fields, held_by}
 use Rattle.items.specs.Reading.{file, rest}
 use Rattle.items.proofs.Filling.{filled_none, refuses}
-use Rattle.schema.proofs.Typing.{field-read, by_form}
+use Rattle.schema.proofs.Typing.{field-read, by_form, formed_after}
 use Rattle.schema.specs.Fields.{field_table}
 use Rattle.items.proofs.Siblings.{finish, stuck, fails, again}
 use Rattle.schema.proofs.fields.+fields.Goals as goal
@@ -55,10 +55,29 @@ read_fields-loop-preserved t c = again c.loop.invariant (omega arith) (omega ari
 pub read_fields-returns : goal.read_fields-returns
 read_fields-returns t c = finish c.loop.invariant (omega arith)
 
+pub read_kind-returns-in-Plain : goal.read_kind-returns-in-Plain
+read_kind-returns-in-Plain t c =
+    let k = c.in_ok-code.ensures.reads in
+    let f = formed_after _ _ _ _ c.in_ok-form.form c.try_from.ensures c.map_err.ensures.cases c.in_ok-form.was in
+    record {
+      reader = refl;
+      table = refl;
+      fills = record {
+        same = k.same;
+        does = (
+          none,
+          by_form (fields c.args.level) c.args.key c.args.to.now.next c.in_ok-code.code c.in_ok-form.form (Plain c.in-Plain.p) (rest c.args.to.now.reader.now) (rest c.byte.new.self) f c.in-Plain.is
+              refl refl k.does,
+          filled_none field_table (file c.args.to.now.reader.now) c.args.to.now.table.now (c.args.to.now.next + 1),
+        );
+      };
+    }
+
 pub read_kind-returns-in_ok-len-in-Sized : goal.read_kind-returns-in_ok-len-in-Sized
 read_kind-returns-in_ok-len-in-Sized t c =
     let k = c.in_ok-code.ensures.reads in
     let d = c.in_ok-len-in-Sized.ensures.reads in
+    let f = formed_after _ _ _ _ c.in_ok-form.form c.try_from.ensures c.map_err.ensures.cases c.in_ok-form.was in
     record {
       reader = refl;
       table = refl;
@@ -67,8 +86,8 @@ read_kind-returns-in_ok-len-in-Sized t c =
         does = (
           none,
           ap (carry (λ k. give (held_by (prim (fixed k)) none))) d.does
-              ∙ by_form (fields c.args.level) c.args.key c.args.to.now.next c.in_ok-code.code c.in-Ok.form Sized (rest c.args.to.now.reader.now) (rest c.byte.new.self)
-              c.in-Ok.ensures c.in-Sized.is refl refl k.does,
+              ∙ by_form (fields c.args.level) c.args.key c.args.to.now.next c.in_ok-code.code c.in_ok-form.form Sized (rest c.args.to.now.reader.now) (rest c.byte.new.self)
+              f c.in-Sized.is refl refl k.does,
           filled_none field_table (file c.args.to.now.reader.now) c.args.to.now.table.now (c.args.to.now.next + 1),
         );
       };
