@@ -6,4 +6,3 @@ pub mod Seeking
 pub mod Filling
 pub mod Siblings
 pub mod Finding
-pub mod Blanking
