@@ -2,6 +2,7 @@ ghost use Rattle.std.specs.Prelude.{IfOk, vec_len};
 ghost use Rattle.batch.specs.Blank.{Blank};
 
 use columns::ColumnEntry;
+use items::fill;
 use schema::FieldEntry;
 use std::alloc::{AllocError, Global};
 
@@ -33,7 +34,7 @@ impl Tables {
     pub(crate) fn clear(&mut self)
         ensures { Blank (vec_len self.old.fields) (vec_len self.old.columns) self.new }
     {
-        self.fields.fill(FieldEntry::BLANK);
-        self.columns.fill(ColumnEntry::BLANK);
+        fill(&mut self.fields, FieldEntry::BLANK);
+        fill(&mut self.columns, ColumnEntry::BLANK);
     }
 }

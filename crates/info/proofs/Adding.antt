@@ -33,7 +33,7 @@ module _ {H : Type 0} (w : Forest H) (line : ℕ → ℕ → H → List ℕ) whe
       sized = let l = p.left in let s = ap size this.is in omega arith
 
       here : find n 1 w ≡ Some (this.head, this.kids)
-      here = found_first n this.head this.kids this.rest 1 w stands p.numbers
+      here = found_first n this.head this.kids this.rest 1 w stands
 
       -- an entry is there
       pub not_missing : {L : Type 0} (output : L → Option (List ℕ)) → written output None ≡ written (λ h. Some (line level n h)) (numbered n (find n 1 w)) → ⊥

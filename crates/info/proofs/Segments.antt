@@ -11,6 +11,9 @@ module _ {A : Type 0} (k n m : ℕ) (x y z : A) where
   is_first : k ≡ n → cond (eqb k n) x (cond (ltb k m) y z) ≡ x
   is_first e = let a : eqb k n ≡ true = grind (arith, nat_tests) in if_true _ _ a
 
+  is_under : k < n → k < m → cond (eqb k n) x (cond (ltb k m) y z) ≡ y
+  is_under l r = let a : eqb k n ≡ false = grind (arith, nat_tests) in let b : ltb k m ≡ true = grind (arith, nat_tests) in if_false _ _ a ∙ if_true _ _ b
+
   is_below : n < k → k < m → cond (eqb k n) x (cond (ltb k m) y z) ≡ y
   is_below l r = let a : eqb k n ≡ false = grind (arith, nat_tests) in let b : ltb k m ≡ true = grind (arith, nat_tests) in if_false _ _ a ∙ if_true _ _ b
 
@@ -57,13 +60,18 @@ module _ {H : Type 0} where
 
   module _ (k : ℕ) (h : H) (kids rest : Forest H) where
     -- what stands at the number is the first of those trees
-    pub found_first : (n : ℕ) (f : Forest H) → siblings_from k n f ≡ tree h kids rest → n ≤ k → find k n f ≡ Some (h, kids)
-    found_first n none e low = cc
-    found_first n (tree x ks rs) e low =
-        elim (place k n x ks rs (tree h kids rest) e low) [
-          | all at same ↦ is_first k n (n + 1 + size ks) _ _ _ at ∙ (let a : x ≡ h = cc in let b : ks ≡ kids = cc in (λ i. Some (a i, b i)))
-          | below l r inner ↦ is_below k n (n + 1 + size ks) _ _ _ l r ∙ found_first (n + 1) ks inner (omega arith)
-          | past r inner ↦ is_past k n (n + 1 + size ks) _ _ _ (omega arith) r ∙ found_first (n + 1 + size ks) rs inner r
+    pub found_first : (n : ℕ) (f : Forest H) → siblings_from k n f ≡ tree h kids rest → find k n f ≡ Some (h, kids)
+    found_first n none e = cc
+    found_first n (tree x ks rs) e =
+        elim (cases_lt k n) [
+          | inl l ↦
+              is_under k n (n + 1 + size ks) _ _ _ l (omega arith) ∙ found_first (n + 1) ks (sym (is_under k n (n + 1 + size ks) _ _ _ l (omega arith)) ∙ e)
+          | inr low ↦
+              elim (place k n x ks rs (tree h kids rest) e low) [
+                | all at same ↦ is_first k n (n + 1 + size ks) _ _ _ at ∙ (let a : x ≡ h = cc in let b : ks ≡ kids = cc in (λ i. Some (a i, b i)))
+                | below l r inner ↦ is_below k n (n + 1 + size ks) _ _ _ l r ∙ found_first (n + 1) ks inner
+                | past r inner ↦ is_past k n (n + 1 + size ks) _ _ _ (omega arith) r ∙ found_first (n + 1 + size ks) rs inner
+              ]
         ]
 
     -- they end within the forest

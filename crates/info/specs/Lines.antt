@@ -1,9 +1,9 @@
 -- The lines that say what a batch holds, as bytes of ASCII.
-use Rattle.std.specs.Prelude.{ℕ, ◌+◌, Bool, true, false, cond, not, ◌&&◌, List, [], ◌∷◌, ◌++◌, Some, None, Ok, Err, codes, Option, Result, ◌==◌, nat_le}
+use Rattle.std.specs.Prelude.{ℕ, ◌+◌, ◌/◌, ◌%◌, ◌^◌, Bool, true, false, cond, not, ◌&&◌, List, [], ◌∷◌, ◌++◌, Some, None, Ok, Err, codes, Option, Result, ◌==◌, nat_le}
 use Rattle.std.specs.List.{flat_map}
 use Rattle.meaning.specs.Forest.{Forest, none, tree, size}
 use Rattle.meaning.specs.Model.{Field, Column, Model}
-use Rattle.meaning.specs.Slots.{null}
+use Rattle.meaning.specs.Slots.{bit, null}
 use Rattle.meaning.specs.Lists.{tally, upto}
 use Rattle.meaning.specs.Items.{BatchFault}
 use Rattle.meaning.specs.Text.{decimal, integer, hex, batch_fault_line}
@@ -29,6 +29,14 @@ quoted bs = codes "\"" ++ escaped bs ++ codes "\""
 -- how many of a column's slots are null
 abbrev pub nulls : Column → ℕ
 nulls x = tally (null x) (upto x.len)
+
+-- how many of a byte's bits are 0
+abbrev pub unset_in : ℕ → ℕ
+unset_in b = tally (λ i. not (b / 2 ^ i % 2 == 1)) (upto 8)
+
+-- how many of n bits are 0, from bit a on
+abbrev pub unset_from : List ℕ → ℕ → ℕ → ℕ
+unset_from bs a n = tally (λ i. not (bit bs (a + i))) (upto n)
 
 -- a column may have no id text
 abbrev pub id_text : Option (List ℕ) → List ℕ

@@ -59,7 +59,7 @@ impl fmt::Display for Line<Column<'_>> {
         let id = IdText(self.entry.id_text);
         let code = self.entry.code;
         let length = self.entry.len;
-        let nulls = count_nulls(&self.entry);
+        let nulls = count_nulls(self.entry);
         write!(
             f,
             "column {number} level {level} name {name} id {id} {code} length {length} nulls {nulls}"

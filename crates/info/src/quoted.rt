@@ -28,7 +28,9 @@ fn put_byte<W: fmt::Write>(f: &mut fmt::Formatter<W>, byte: u8) -> fmt::Result
     if is_printable(byte) {
         f.write_char(byte as char)
     } else {
-        write!(f, "\\x{byte:02x}")
+        let high = char::from_digit(u32::from(byte / 16), 16).unwrap();
+        let low = char::from_digit(u32::from(byte % 16), 16).unwrap();
+        write!(f, "\\x{high}{low}")
     }
 }
 

@@ -10,7 +10,7 @@ use std::io;
 use std::io::{ErrorKind, Read};
 
 // The bytes of `reader` up to its end, or the first `limit` of them where there are more. No byte past
-// the limit is asked for. A read that a signal interrupts is tried again.
+// the limit is asked for. A read that a signal interrupts is tried again. Each read is handed zeros, and no bytes of an earlier one.
 pub fn read_at_most<R: Read>(heap: Global, reader: &mut R, limit: usize) -> io::Result<Vec<u8>>
     ensures within { IfOk result (λ v. vec_len v ≤ limit) }
     ensures bytes { IfOk result (λ v. IfSome (R.remaining reader.old) (λ xs. v.items ≡ take limit xs)) }
@@ -19,8 +19,8 @@ pub fn read_at_most<R: Read>(heap: Global, reader: &mut R, limit: usize) -> io::
     ensures err { OnErr result ((lost : List ℕ) × (length lost ≤ limit) × Consumes (R.remaining reader.old) (R.remaining reader.new) lost) }
 {
     let mut bytes = Vec::new(heap);
-    let mut chunk = [0u8; 8192];
     for _ in 0..u64::MAX {
+        let mut chunk = [0u8; 8192];
         let room = chunk.len().min(limit - bytes.len());
         if room == 0 {
             return Ok(bytes);
@@ -65,6 +65,33 @@ mod tests {
         let bytes = read_at_most(rt.alloc(), &mut source, 19999)?;
         assert!(rt; bytes.len() == 19999);
         assert!(rt; source.len() == 1);
+        Ok(())
+    }
+
+    // Writes two bytes the first time, and nothing the second time, when it says so all the same.
+    #[derive(Drop)]
+    struct Silent {
+        turn: u8,
+    }
+
+    impl Read for Silent {
+        fn read(&mut self, buf: &mut [u8]) -> io::Result<usize> {
+            self.turn = self.turn.saturating_add(1);
+            let [first, second, ..] = buf else {
+                return Ok(0);
+            };
+            if self.turn == 1 {
+                *first = b'a';
+                *second = b'b';
+            }
+            Ok(if self.turn <= 2 { 2 } else { 0 })
+        }
+    }
+
+    #[test]
+    fn hands_no_earlier_bytes_to_a_read(rt: HostRuntime) -> Result<(), Fail> {
+        let bytes = read_at_most(rt.alloc(), &mut Silent { turn: 0 }, 9)?;
+        assert!(rt; bytes.as_slice() == b"ab\0\0".as_slice());
         Ok(())
     }
 
