@@ -1,53 +1,53 @@
 ghost use Rattle.std.specs.Prelude.{◌≡◌};
 ghost use Rattle.fault.specs.Numbers.{number_of};
 
-// Why a call refuses, with its number in the table of refusals.
+// Why a call refuses, in the order of the numbers in the table of refusals, which begin with 1.
 #[derive(Clone, Copy, Debug, PartialEq, Eq)]
 pub enum Refusal {
     // the bytes end before an item does
-    Cut = 1,
+    Cut,
     // a number's fifth byte is 16 or more, or the number is not in its shortest form
-    LongNumber = 2,
+    LongNumber,
     // an edition, code or flag byte that is not listed
-    Code = 3,
+    Code,
     // a limit of the format is passed, or the work tables are too short
-    Limit = 4,
+    Limit,
     // an offset is negative, below the one before it, or past the end of what it cuts
-    Offset = 5,
+    Offset,
     // a column's length is not the one that its holder requires
-    Length = 6,
+    Length,
     // type Decimal; a struct, list or map as a map's key type; width 0 or size 0
-    Unported = 7,
+    Unported,
     // bytes follow the last column
-    Leftover = 8,
+    Leftover,
     // a number handed in names no field or column, or none of the kind that the call is for
-    NoPlace = 9,
+    NoPlace,
     // the struct partner or a field is sought in a column that is no struct
-    NoStruct = 10,
+    NoStruct,
     // the accessor picks no child for the field
-    NoMatch = 11,
+    NoMatch,
     // an element is sought, or a list is cut, in a column that is no list
-    NoList = 12,
+    NoList,
     // a key or value is sought, or a map is cut, in a column that is no map
-    NoMap = 13,
+    NoMap,
     // a primitive type meets a column code that it does not accept
-    WrongColumn = 14,
+    WrongColumn,
     // a null in a required struct field, where its struct is not null
-    NullField = 15,
+    NullField,
     // a null in a required element or map value, in the span of a slot that is not null
-    NullElement = 16,
+    NullElement,
     // a struct's field result has not as many rows as the struct's column
-    UnevenRows = 17,
+    UnevenRows,
     // key and value results differ in length
-    UnevenPairs = 18,
+    UnevenPairs,
     // a null key in the span of a slot that is not null
-    NullKey = 19,
+    NullKey,
     // a span ends past the element result, or past the key and value results
-    ShortChild = 20,
+    ShortChild,
     // the cells that a step needs do not fit, or too few results are lent to a walk
-    NoCells = 21,
+    NoCells,
     // a 257th id
-    FullTable = 22,
+    FullTable,
 }
 
 impl Refusal {
@@ -55,6 +55,6 @@ impl Refusal {
     pub fn number(self) -> u8
         ensures { result ≡ number_of self }
     {
-        self as u8
+        self as u8 + 1
     }
 }
